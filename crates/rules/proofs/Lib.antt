@@ -1,1 +1,4 @@
 pub mod Sessions
+pub mod Tables
+pub mod Seats
+pub mod Lines
