@@ -2,3 +2,4 @@ pub mod Sessions
 pub mod Tables
 pub mod Seats
 pub mod Lines
+pub mod Turns

@@ -91,7 +91,7 @@ current-turn :
   {xs zs : List Copy} {r : ℕ} {h : ℕ → State → State} {w : List ℕ → List ℕ} {s : State} {ws : List ℕ} → Turned xs zs r h w s ws
   → (truth truth′ : List ℕ) → ((i : ℕ) → valid (stateAt xs i) ≡ true → wordsAt xs i ≡ truth)
   → ((k : ℕ) → k ≢ r → below (h k (stateAt xs k)) (stateAt xs k) ≡ true)
-  → w truth ≡ truth′ → (valid s ≡ true → ws ≡ truth′)
+  → ((k : ℕ) → k ≢ r → valid (h k (stateAt xs k)) ≡ true → w truth ≡ truth′) → (valid s ≡ true → ws ≡ truth′)
   → (i : ℕ) → (i ≡ r) ⊎ (i ≡ r → ⊥) → valid (stateAt zs i) ≡ true → wordsAt zs i ≡ truth′
 current-turn {xs} {zs} {r} {h} {w} {s} {ws} t truth truth′ old b wt wr i (inl p) e =
     ap (wordsAt zs) p ∙ t .own-words held ∙ wr held
@@ -99,7 +99,7 @@ current-turn {xs} {zs} {r} {h} {w} {s} {ws} t truth truth′ old b wt wr i (inl 
     held : valid s ≡ true
     held = subst (λ (x : State). valid x ≡ true) (ap (stateAt zs) p ∙ t .own-state) e
 current-turn {xs} {zs} {r} {h} {w} {s} {ws} t truth truth′ old b wt wr i (inr p) e =
-    t .other-words i p heard ∙ ap w (old i (below-valid (h i (stateAt xs i)) (stateAt xs i) (b i p) heard)) ∙ wt
+    t .other-words i p heard ∙ ap w (old i (below-valid (h i (stateAt xs i)) (stateAt xs i) (b i p) heard)) ∙ wt i p heard
   where
     heard : valid (h i (stateAt xs i)) ≡ true
     heard = subst (λ (x : State). valid x ≡ true) (t .other-state i p) e
@@ -112,7 +112,7 @@ pub turn-moved :
   → Coherent (record { copies = xs; home = home }) truth
   → ((k : ℕ) → k ≢ r → below (h k (stateAt xs k)) (stateAt xs k) ≡ true)
   → ((k : ℕ) → k ≢ r → agree s (h k (stateAt xs k)) ≡ true)
-  → w truth ≡ truth′ → (valid s ≡ true → ws ≡ truth′)
+  → ((k : ℕ) → k ≢ r → valid (h k (stateAt xs k)) ≡ true → w truth ≡ truth′) → (valid s ≡ true → ws ≡ truth′)
   → (((i : ℕ) → owned (stateAt zs i) ≡ false) → home′ ≡ truth′)
   → length home′ ≡ length truth′
   → Moved (record { copies = xs; home = home }) (record { copies = zs; home = home′ }) r holding truth′

@@ -117,6 +117,12 @@ unheld-unowned a e = not-true (owned a) (then (not (valid a)) (not (owned a)) (e
 pub isO-owned : (a : State) → isO a ≡ true → owned a ≡ true
 isO-owned a e = then (isO a) (owned a) (each (λ a. imp (isO a) (owned a)) refl a) e
 
+pub exclusive-valid : (a : State) → exclusive a ≡ true → valid a ≡ true
+exclusive-valid a e = then (exclusive a) (valid a) (each (λ a. imp (exclusive a) (valid a)) refl a) e
+
+pub unowned-isO : (a : State) → owned a ≡ false → isO a ≡ false
+unowned-isO a e = not-true (isO a) (then (not (owned a)) (not (isO a)) (each (λ a. imp (not (owned a)) (not (isO a))) refl a) (ap not e))
+
 pub unheld : (a : State) → valid a ≡ false → a ≡ Invalid
 unheld Invalid e = refl
 unheld Shared e = absurd (false≢true (sym e))
