@@ -3,3 +3,5 @@ pub mod Tables
 pub mod Seats
 pub mod Lines
 pub mod Turns
+pub mod Sets
+pub mod Caches
