@@ -5,3 +5,4 @@ pub mod Lines
 pub mod Turns
 pub mod Sets
 pub mod Caches
+pub mod Machines
