@@ -6,3 +6,4 @@ pub mod Turns
 pub mod Sets
 pub mod Caches
 pub mod Machines
+pub mod Steps
