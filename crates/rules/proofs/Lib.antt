@@ -7,3 +7,4 @@ pub mod Sets
 pub mod Caches
 pub mod Machines
 pub mod Steps
+pub mod Accesses
