@@ -8,3 +8,4 @@ pub mod Caches
 pub mod Machines
 pub mod Steps
 pub mod Accesses
+pub mod Settling
