@@ -9,3 +9,5 @@ pub mod Machines
 pub mod Steps
 pub mod Accesses
 pub mod Settling
+pub mod Calls
+pub mod Coherence
