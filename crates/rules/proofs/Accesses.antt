@@ -63,11 +63,11 @@ module _ (z : Sizes) (cell : Protocol) (law : Lawful cell) (n : ℕ) (there : n 
       shared-moved = readShared-moved (column new n) (getD truth n []) (e .good .sound .each n there) r (on-column (e .good) n r on) cell law
 
       filled-from : Good z truth (transact ReadShared r n (readShared cell r) new) × (holds r n (transact ReadShared r n (readShared cell r) new) ≡ true)
-      filled-from =
-          ( subst (λ (t : List (List ℕ)). Good z t (transact ReadShared r n (readShared cell r) new)) (set-getD truth n [])
-            (transact-good z truth new (e .good) n there r on (readShared cell r) true (getD truth n []) shared-moved (λ _. e .free) (e .good .sound .widths n there) ReadShared (omega (arith, ap one still)))
-          , transact-holds z truth new (e .good) n there r on (readShared cell r) true (getD truth n []) shared-moved (λ _. e .free) (e .good .sound .widths n there) ReadShared
-          )
+      filled-from = (
+        subst (λ (t : List (List ℕ)). Good z t (transact ReadShared r n (readShared cell r) new)) (set-getD truth n [])
+            (transact-good z truth new (e .good) n there r on (readShared cell r) true (getD truth n []) shared-moved (λ _. e .free) (e .good .sound .widths n there) ReadShared (omega (arith, ap one still))),
+        transact-holds z truth new (e .good) n there r on (readShared cell r) true (getD truth n []) shared-moved (λ _. e .free) (e .good .sound .widths n there) ReadShared,
+      )
 
       exclusive-from : (o v : ℕ) → Good z (set truth n (set (getD truth n []) o v)) (transact ReadInvalidate r n (readInvalidate r o v) new)
       exclusive-from o v =
@@ -116,7 +116,7 @@ module _ (z : Sizes) (cell : Protocol) (law : Lawful cell) (n : ℕ) (there : n 
       other-owner i e =
           ⊎-elim
           (λ p. absurd (both-ways (owned (stateAt (set (copiesOf n (m .caches)) r none) i))
-            (ap (λ (k : ℕ). owned (stateAt (set (copiesOf n (m .caches)) r none) k)) p ∙ ap (λ (x : Copy). owned (x .state)) (getD-set-same (copiesOf n (m .caches)) r none none (on-column ok n r on))) e))
+          (ap (λ (k : ℕ). owned (stateAt (set (copiesOf n (m .caches)) r none) k)) p ∙ ap (λ (x : Copy). owned (x .state)) (getD-set-same (copiesOf n (m .caches)) r none none (on-column ok n r on))) e))
           (λ p. sym (ap (λ (x : Copy). owned (x .state)) (getD-set-other (copiesOf n (m .caches)) r i none none p)) ∙ e)
           (cases-eq i r)
 
@@ -139,11 +139,15 @@ module _ (z : Sizes) (cell : Protocol) (law : Lawful cell) (n : ℕ) (there : n 
       -- by the transaction that the cell names
       sent-good : (b : ℕ) → among b (codes "3456") ≡ true → Good z (newer truth) (sentBy cell r n o v (digitTransaction b) m)
       sent-good b e =
-          each-of (λ b. Good z (newer truth) (sentBy cell r n o v (digitTransaction b) m)) b (codes "3456") e
-          ( by Invalidate (invalidate r o v) true (invalidate-moved (column m n) (getD truth n []) (ok .sound .each n there) r (on-column ok n r on) o v held) (omega (arith, ap one held))
-          , ( by Update (update cell r o v) true (update-moved (column m n) (getD truth n []) (ok .sound .each n there) r (on-column ok n r on) cell law o v held) (omega (arith, ap one held))
-            , ( by ThroughUpdate (throughUpdate cell r o v) (holds r n m) (throughUpdate-moved (column m n) (getD truth n []) (ok .sound .each n there) r (on-column ok n r on) cell law o v) (omega arith)
-              , ( through-good truth m ok, tt )))
+          each-of (λ b. Good z (newer truth) (sentBy cell r n o v (digitTransaction b) m)) b (codes "3456") e (
+            by Invalidate (invalidate r o v) true (invalidate-moved (column m n) (getD truth n []) (ok .sound .each n there) r (on-column ok n r on) o v held) (omega (arith, ap one held)),
+            (
+              by Update (update cell r o v) true (update-moved (column m n) (getD truth n []) (ok .sound .each n there) r (on-column ok n r on) cell law o v held) (omega (arith, ap one held)),
+              (
+                by ThroughUpdate (throughUpdate cell r o v) (holds r n m) (throughUpdate-moved (column m n) (getD truth n []) (ok .sound .each n there) r (on-column ok n r on) cell law o v) (omega arith),
+                (through-good truth m ok, tt),
+              ),
+            ),
           )
         where
           by : (t : Transaction) (f : Column → Column) (holding : Bool) → Moved (column m n) (f (column m n)) r holding (set (getD truth n []) o v) → one (holds r n m) + fillsBy t ≡ one holding → Good z (newer truth) (transact t r n f m)
@@ -151,18 +155,18 @@ module _ (z : Sizes) (cell : Protocol) (law : Lawful cell) (n : ℕ) (there : n 
 
       -- a silent write
       silent-good : exclusive (stateIn r n m) ≡ true → Good z (newer truth) (change n (silent r o v) m)
-      silent-good only = record
-        { sound = change-sound z truth m ok n there r on (silent r o v) true (set (getD truth n []) o v) moved (λ _. held-room m r n held) (wide truth m ok)
-        ; balanced = subst (λ (t : Tally). Balanced t (copiesHeld (change n (silent r o v) m .caches))) (sym (change-tally m n (silent r o v)))
-            (omega
-              ( arith
-              , ok .balanced
-              , change-held z truth m ok n there r on (silent r o v) true (set (getD truth n []) o v) moved (λ _. held-room m r n held) (wide truth m ok)
-              , ap holders (silent-copies (column m n) r o v)
-              , holders-set (copiesOf n (m .caches)) r (kept Modified (set (wordsAt (copiesOf n (m .caches)) r) o v)) (on-column ok n r on)
-              , ap one held
-              ))
-        }
+      silent-good only = record {
+        sound = change-sound z truth m ok n there r on (silent r o v) true (set (getD truth n []) o v) moved (λ _. held-room m r n held) (wide truth m ok);
+        balanced = subst (λ (t : Tally). Balanced t (copiesHeld (change n (silent r o v) m .caches))) (sym (change-tally m n (silent r o v)))
+            (omega (
+              arith,
+              ok .balanced,
+              change-held z truth m ok n there r on (silent r o v) true (set (getD truth n []) o v) moved (λ _. held-room m r n held) (wide truth m ok),
+              ap holders (silent-copies (column m n) r o v),
+              holders-set (copiesOf n (m .caches)) r (kept Modified (set (wordsAt (copiesOf n (m .caches)) r) o v)) (on-column ok n r on),
+              ap one held,
+            ));
+      }
         where
           moved : Moved (column m n) (silent r o v (column m n)) r true (set (getD truth n []) o v)
           moved = silent-moved (column m n) (getD truth n []) (ok .sound .each n there) r (on-column ok n r on) o v only
@@ -181,9 +185,9 @@ module _ (z : Sizes) (cell : Protocol) (law : Lawful cell) (n : ℕ) (there : n 
     module _ (truth : List (List ℕ)) (m : Machine) (ok : Good z truth m) where
       missed-good : holds r n m ≡ false → (b : ℕ) → among b (codes "126") ≡ true → Good z (newer truth) (missedBy cell r n o v (digitTransaction b) m)
       missed-good miss b e =
-          each-of (λ b. Good z (newer truth) (missedBy cell r n o v (digitTransaction b) m)) b (codes "126") e
-          ( (let f = filled-good truth m ok miss in writtenHeld-good truth (filled cell r n m) (f .0) (f .1))
-          , ( missed-RX truth m ok miss o v, ( through-good truth m ok, tt ) )
+          each-of (λ b. Good z (newer truth) (missedBy cell r n o v (digitTransaction b) m)) b (codes "126") e (
+            (let f = filled-good truth m ok miss in writtenHeld-good truth (filled cell r n m) (f .0) (f .1)),
+            (missed-RX truth m ok miss o v, (through-good truth m ok, tt)),
           )
 
       written-if : (b : Bool) → holds r n m ≡ b → Good z (newer truth) (writtenIf cell r n o v b m)

@@ -68,36 +68,36 @@ fresh-copies zero sets = refl
 fresh-copies (suc seats) sets = omega (arith, fresh-held sets 1, fresh-copies seats sets)
 
 fresh-coherent : (seats sets n : ℕ) (home : List ℕ) → Coherent (record { copies = copiesOf n (replicate seats (fresh sets 1)); home = home }) home
-fresh-coherent seats sets n home = record
-  { apart = λ i j ne. agree-unheld (stateAt (copiesOf n (replicate seats (fresh sets 1))) i) (stateAt (copiesOf n (replicate seats (fresh sets 1))) j) (ap valid (fresh-state seats sets n j))
-  ; current = λ i e. absurd (false≢true (sym (ap valid (fresh-state seats sets n i)) ∙ e))
-  ; safe = λ _. refl
-  ; wide = refl
-  }
+fresh-coherent seats sets n home = record {
+  apart = λ i j ne. agree-unheld (stateAt (copiesOf n (replicate seats (fresh sets 1))) i) (stateAt (copiesOf n (replicate seats (fresh sets 1))) j) (ap valid (fresh-state seats sets n j));
+  current = λ i e. absurd (false≢true (sym (ap valid (fresh-state seats sets n i)) ∙ e));
+  safe = λ _. refl;
+  wide = refl;
+}
 
 pub opened-in-step :
-  (z : Sizes) (cell : Protocol) → Lawful cell → 0 < z .sets → 0 < z .width → (memory : List (List ℕ)) → Sized z memory
-  → InStep z (opened cell (z .seats) (z .sets) memory) (begun (z .width) memory)
-opened-in-step z cell law sets width memory sized = record
-  { lawful = law
-  ; wide = width
-  ; truth = memory
-  ; good = record
-      { sound = record
-          { truths = sized .lines
-          ; widths = sized .words
-          ; seated = length-replicate (z .seats) (fresh (z .sets) 1)
-          ; lined = sized .lines
-          ; order = λ k l. subst (Wf (z .lines) (z .sets))
-              (sym (getD-replicate (z .seats) k (fresh (z .sets) 1) [] (subst (λ (i : ℕ). k < i) (length-replicate (z .seats) (fresh (z .sets) 1)) l)))
-              (fresh-wf (z .lines) (z .sets) 1 sets (omega arith))
-          ; each = λ n l. fresh-coherent (z .seats) (z .sets) n (getD memory n [])
-          }
-      ; balanced = omega (arith, fresh-copies (z .seats) (z .sets))
-      }
-  ; words = λ a l. refl
-  ; count = refl
-  }
+    (z : Sizes) (cell : Protocol) → Lawful cell → 0 < z .sets → 0 < z .width → (memory : List (List ℕ)) → Sized z memory
+    → InStep z (opened cell (z .seats) (z .sets) memory) (begun (z .width) memory)
+opened-in-step z cell law sets width memory sized = record {
+  lawful = law;
+  wide = width;
+  truth = memory;
+  good = record {
+    sound = record {
+      truths = sized .lines;
+      widths = sized .words;
+      seated = length-replicate (z .seats) (fresh (z .sets) 1);
+      lined = sized .lines;
+      order = λ k l. subst (Wf (z .lines) (z .sets))
+          (sym (getD-replicate (z .seats) k (fresh (z .sets) 1) [] (subst (λ (i : ℕ). k < i) (length-replicate (z .seats) (fresh (z .sets) 1)) l)))
+          (fresh-wf (z .lines) (z .sets) 1 sets (omega arith));
+      each = λ n l. fresh-coherent (z .seats) (z .sets) n (getD memory n []);
+    };
+    balanced = omega (arith, fresh-copies (z .seats) (z .sets));
+  };
+  words = λ a l. refl;
+  count = refl;
+}
 
 -- an access that is not refused is on the bus and within memory
 no-some : {A : Type 0} {P : Type 0} (x : A) → Some x ≡ None → P
@@ -106,17 +106,17 @@ no-some x e = let q : _≡_ {A = ℕ} 0 1 = cc in absurd (omega arith)
 pub access-fine : (answered counts seats addresses seat address places : ℕ) → dueAccess answered counts seats addresses seat address places ≡ None → (seat < seats) × (address < addresses)
 access-fine answered counts seats addresses seat address places e =
     elim (ltb limit (answered + counts)) as
-    (λ b. cond b (Some (plain 5)) (cond (leb seats seat) (Some (plain 6)) (cond (leb addresses address) (Some (plain 7)) (cond (ltb places placesNeeded) (Some (plain 8)) None))) ≡ None → (seat < seats) × (address < addresses))
-    [ true ↦ λ h. no-some (plain 5) h
-    | false ↦
-      elim (leb seats seat) as
-      (λ b. leb seats seat ≡ b → cond b (Some (plain 6)) (cond (leb addresses address) (Some (plain 7)) (cond (ltb places placesNeeded) (Some (plain 8)) None)) ≡ None → (seat < seats) × (address < addresses))
-      [ true ↦ λ p h. no-some (plain 6) h
-      | false ↦ λ p.
-        elim (leb addresses address) as
-        (λ b. leb addresses address ≡ b → cond b (Some (plain 7)) (cond (ltb places placesNeeded) (Some (plain 8)) None) ≡ None → (seat < seats) × (address < addresses))
-        [ true ↦ λ q h. no-some (plain 7) h | false ↦ λ q h. (leb-false seats seat p, leb-false addresses address q) ] refl
-      ] refl
+    (λ b. cond b (Some (plain 5)) (cond (leb seats seat) (Some (plain 6)) (cond (leb addresses address) (Some (plain 7)) (cond (ltb places placesNeeded) (Some (plain 8)) None))) ≡ None → (seat < seats) × (address < addresses)) [
+      | true ↦ λ h. no-some (plain 5) h
+      | false ↦
+          elim (leb seats seat) as
+          (λ b. leb seats seat ≡ b → cond b (Some (plain 6)) (cond (leb addresses address) (Some (plain 7)) (cond (ltb places placesNeeded) (Some (plain 8)) None)) ≡ None → (seat < seats) × (address < addresses)) [
+            | true ↦ λ p h. no-some (plain 6) h
+            | false ↦ λ p.
+                elim (leb addresses address) as
+                (λ b. leb addresses address ≡ b → cond b (Some (plain 7)) (cond (ltb places placesNeeded) (Some (plain 8)) None) ≡ None → (seat < seats) × (address < addresses))
+                [ true ↦ λ q h. no-some (plain 7) h | false ↦ λ q h. (leb-false seats seat p, leb-false addresses address q) ] refl
+          ] refl
     ] e
 
 -- counting a read or a write leaves the balance
@@ -130,7 +130,7 @@ write-counted false ok = record { sound = ok .sound; balanced = ok .balanced }
 
 -- the words after a write
 module _ (z : Sizes) (truth : List (List ℕ)) (wide : 0 < z .width) (lines : length truth ≡ z .lines)
-  (widths : (n : ℕ) → n < z .lines → length (getD truth n []) ≡ z .width) (address value : ℕ) (l : address < addresses z) where
+    (widths : (n : ℕ) → n < z .lines → length (getD truth n []) ≡ z .width) (address value : ℕ) (l : address < addresses z) where
   abbrev lineNow : List ℕ
   lineNow = set (getD truth (address / z .width) []) (address % z .width) value
 
@@ -144,16 +144,16 @@ module _ (z : Sizes) (truth : List (List ℕ)) (wide : 0 < z .width) (lines : le
   word-now =
       ap (λ (w : List ℕ). getD w (address % z .width) 0) line-now
       ∙ getD-set-same (getD truth (address / z .width) []) (address % z .width) value 0
-        (subst (λ (k : ℕ). address % z .width < k) (sym (widths (address / z .width) (line-of z wide address l))) (mod-lt address wide))
+      (subst (λ (k : ℕ). address % z .width < k) (sym (widths (address / z .width) (line-of z wide address l))) (mod-lt address wide))
 
   word-other : (a : ℕ) → a ≢ address → wordOf (z .width) linesNow a ≡ wordOf (z .width) truth a
   word-other a ne =
       ⊎-elim
       (λ p. ap (λ (k : ℕ). getD (getD linesNow k []) (a % z .width) 0) p
-        ∙ ap (λ (w : List ℕ). getD w (a % z .width) 0) line-now
-        ∙ getD-set-other (getD truth (address / z .width) []) (address % z .width) (a % z .width) value 0
-          (λ q. ne (sym (div-add-mod a (z .width)) ∙ ap (λ (k : ℕ). z .width * k + a % z .width) p ∙ ap (λ (k : ℕ). z .width * (address / z .width) + k) q ∙ div-add-mod address (z .width)))
-        ∙ ap (λ (k : ℕ). getD (getD truth k []) (a % z .width) 0) (sym p))
+      ∙ ap (λ (w : List ℕ). getD w (a % z .width) 0) line-now
+      ∙ getD-set-other (getD truth (address / z .width) []) (address % z .width) (a % z .width) value 0
+      (λ q. ne (sym (div-add-mod a (z .width)) ∙ ap (λ (k : ℕ). z .width * k + a % z .width) p ∙ ap (λ (k : ℕ). z .width * (address / z .width) + k) q ∙ div-add-mod address (z .width)))
+      ∙ ap (λ (k : ℕ). getD (getD truth k []) (a % z .width) 0) (sym p))
       (λ p. ap (λ (w : List ℕ). getD w (a % z .width) 0) (getD-set-other truth (address / z .width) (a / z .width) lineNow [] p))
       (cases-eq (a / z .width) (address / z .width))
 
@@ -161,7 +161,7 @@ module _ (z : Sizes) (truth : List (List ℕ)) (wide : 0 < z .width) (lines : le
   written-word a =
       ⊎-elim
       (λ p. subst (λ (i : ℕ). wordOf (z .width) linesNow i ≡ cond (eqb i address) value (wordOf (z .width) truth i)) (sym p)
-        (word-now ∙ sym (cond-true (eqb address address) value (wordOf (z .width) truth address) (eq-eqb address address refl))))
+      (word-now ∙ sym (cond-true (eqb address address) value (wordOf (z .width) truth address) (eq-eqb address address refl))))
       (λ p. word-other a p ∙ sym (cond-false (eqb a address) value (wordOf (z .width) truth a) (ne-eqb a address p)))
       (cases-eq a address)
 
@@ -175,12 +175,12 @@ refuses-alike {z} {s} {l} k call =
 module _ (z : Sizes) (s : System) (l : Ledger) (k : InStep z s l) where
   -- an access that is not refused
   pub access-on :
-    (counts seat address places : ℕ) → dueAccess (s .answered) counts (length (s .caches)) (length (s .memory) * z .width) seat address places ≡ None
-    → (seat < z .seats) × (address < addresses z)
+      (counts seat address places : ℕ) → dueAccess (s .answered) counts (length (s .caches)) (length (s .memory) * z .width) seat address places ≡ None
+      → (seat < z .seats) × (address < addresses z)
   access-on counts seat address places e =
-      let f = access-fine (s .answered) counts (length (s .caches)) (length (s .memory) * z .width) seat address places e in
-      ( subst (λ (n : ℕ). seat < n) (k .good .sound .seated) (f .0)
-      , subst (λ (n : ℕ). address < n * z .width) (k .good .sound .lined) (f .1)
+      let f = access-fine (s .answered) counts (length (s .caches)) (length (s .memory) * z .width) seat address places e in (
+        subst (λ (n : ℕ). seat < n) (k .good .sound .seated) (f .0),
+        subst (λ (n : ℕ). address < n * z .width) (k .good .sound .lined) (f .1),
       )
 
   -- an answered call
@@ -193,16 +193,16 @@ module _ (z : Sizes) (s : System) (l : Ledger) (k : InStep z s l) where
       let on = access-on 1 seat address places e in
       let n = address / z .width in
       let g = write-counted (holds seat n (atWork s)) (written-good z (s .cell) (k .lawful) n (line-of z (k .wide) address (on .1)) seat (on .0) (address % z .width) value (k .truth) (atWork s) (k .good)) in
-      record
-        { lawful = k .lawful
-        ; wide = k .wide
-        ; truth = set (k .truth) n (set (getD (k .truth) n []) (address % z .width) value)
-        ; good = record { sound = g .sound; balanced = g .balanced }
-        ; words = λ a h.
+      record {
+        lawful = k .lawful;
+        wide = k .wide;
+        truth = set (k .truth) n (set (getD (k .truth) n []) (address % z .width) value);
+        good = record { sound = g .sound; balanced = g .balanced };
+        words = λ a h.
             written-word z (k .truth) (k .wide) (k .good .sound .truths) (k .good .sound .widths) address value (on .1) a
-            ∙ ap (λ (w : ℕ). cond (eqb a address) value w) (k .words a h)
-        ; count = ap (λ (n : ℕ). n + 1) (k .count)
-        }
+            ∙ ap (λ (w : ℕ). cond (eqb a address) value w) (k .words a h);
+        count = ap (λ (n : ℕ). n + 1) (k .count);
+      }
   answered-in-step (Flush seat address places) e =
       let on = access-on 1 seat address places e in
       let g = flushed-good z (k .truth) (address / z .width) (line-of z (k .wide) address (on .1)) seat (on .0) (atWork s) (k .good) in

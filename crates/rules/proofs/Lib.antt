@@ -10,4 +10,4 @@ pub mod Steps
 pub mod Accesses
 pub mod Settling
 pub mod Calls
-pub mod Coherence
+pub mod Promises

@@ -69,16 +69,16 @@ module _ (z : Sizes) (truth : List (List ℕ)) (r : ℕ) (on : r < z .seats) whe
     keeps-if true k j e =
         ⊎-elim
         (λ p. subst (λ (i : ℕ). Clear (set (m .caches) r (put n (getD (m .caches) r []) none)) i j) (sym p)
-          (subst (λ (c : Cache). valid (look c j .state) ≡ false) (sym dropped-at)
-          (drop-keeps (z .lines) (z .sets) (getD (m .caches) r []) (seat-order ok r on) n j (subst (λ (i : ℕ). Clear (m .caches) i j) p e))))
+        (subst (λ (c : Cache). valid (look c j .state) ≡ false) (sym dropped-at)
+        (drop-keeps (z .lines) (z .sets) (getD (m .caches) r []) (seat-order ok r on) n j (subst (λ (i : ℕ). Clear (m .caches) i j) p e))))
         (λ p. subst (λ (c : Cache). valid (look c j .state) ≡ false) (sym (getD-set-other (m .caches) r k (put n (getD (m .caches) r []) none) [] p)) e)
         (cases-eq k r)
 
     pub flushed-runs : Flushing z truth m (flushed r n m)
-    flushed-runs = record
-      { good = flushed-good z truth n there r on m ok
-      ; keeps = λ k j e. subst (λ (cs : List Cache). Clear cs k j) (sym (flushed-caches z truth n there r on m ok)) (keeps-if (holds r n m) k j e)
-      }
+    flushed-runs = record {
+      good = flushed-good z truth n there r on m ok;
+      keeps = λ k j e. subst (λ (cs : List Cache). Clear cs k j) (sym (flushed-caches z truth n there r on m ok)) (keeps-if (holds r n m) k j e);
+    }
 
   -- lines in turn
   each-runs : (ns : List ℕ) (m : Machine) → Good z truth m → ((n : ℕ) → among n ns ≡ true → n < z .lines) → Flushing z truth m (flushedEach r ns m)
@@ -96,7 +96,7 @@ module _ (z : Sizes) (truth : List (List ℕ)) (r : ℕ) (on : r < z .seats) whe
       let later = λ (i : ℕ) (q : among i ns ≡ true). h i (or-right (eqb i n) (among i ns) q) in
       ⊎-elim
       (λ p. each-runs ns (flushed r n m) good later .keeps r j
-        (subst (λ (i : ℕ). Clear (flushed r n m .caches) r i) (sym (eqb-true j n p)) (flushed-clears n there m ok)))
+      (subst (λ (i : ℕ). Clear (flushed r n m .caches) r i) (sym (eqb-true j n p)) (flushed-clears n there m ok)))
       (λ q. each-clears ns (flushed r n m) good later j q)
       (or-cases (eqb j n) (among j ns) e)
 
@@ -114,7 +114,7 @@ module _ (z : Sizes) (truth : List (List ℕ)) (r : ℕ) (on : r < z .seats) whe
     set-clears n e =
         ⊎-elim
         (λ h. each-clears (linesAt (getD (m .caches) r []) i) m ok listed n
-          (subst (λ (k : ℕ). among n (linesAt (getD (m .caches) r []) k) ≡ true) e (look-listed (z .lines) (z .sets) (getD (m .caches) r []) (seat-order ok r on) n h .1)))
+        (subst (λ (k : ℕ). among n (linesAt (getD (m .caches) r []) k) ≡ true) e (look-listed (z .lines) (z .sets) (getD (m .caches) r []) (seat-order ok r on) n h .1)))
         (λ h. set-runs .keeps r n h)
         (cases-bool (valid (look (getD (m .caches) r []) n .state)))
 
@@ -191,4 +191,4 @@ module _ (z : Sizes) (truth : List (List ℕ)) (m : Machine) (ok : Good z truth 
       let g = settled-good z truth m ok in
       ext-getD [] (settled m .memory) truth (g .sound .lined ∙ sym (g .sound .truths))
       (λ n l. g .sound .each n (omega (arith, g .sound .lined)) .safe
-        (λ k. unheld-unowned (stateAt (copiesOf n (settled m .caches)) k) (ap (λ (x : Copy). valid (x .state)) (column-at n (settled m .caches) k) ∙ settled-clear z truth m ok k n)))
+      (λ k. unheld-unowned (stateAt (copiesOf n (settled m .caches)) k) (ap (λ (x : Copy). valid (x .state)) (column-at n (settled m .caches) k) ∙ settled-clear z truth m ok k n)))

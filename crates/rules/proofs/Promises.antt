@@ -96,20 +96,20 @@ module _ (z : Sizes) (s : System) (l : Ledger) (k : InStep z s l) where
 
   -- what a run in step keeps
   pub promised : Promise z s l
-  promised = record
-    { owner = one-owner
-    ; alone = only-copy
-    ; refuses = refuses-alike k
-    ; reads = answered-read
-    ; settles = answered-settle
-    ; closes = subst (λ (lines : List (List ℕ)). Equals z lines l) (sym (closed-memory s)) settled-words
-    ; accounts = k .good .balanced
-    ; closing = subst (λ (t : Tally). t .fills ≡ t .displaced + t .flushed + t .invalidated) (sym (closed-tally s)) settled-balance
-    ; seats = k .good .sound .seated
-    ; sets = λ i h. k .good .sound .order i (subst (λ (n : ℕ). i < n) (sym (k .good .sound .seated)) h) .sized
-    ; sized = sized-from (k .good)
-    ; sizedAtClosing = subst (Sized z) (sym (closed-memory s)) (sized-from (settled-good z (k .truth) (atWork s) (k .good)))
-    }
+  promised = record {
+    owner = one-owner;
+    alone = only-copy;
+    refuses = refuses-alike k;
+    reads = answered-read;
+    settles = answered-settle;
+    closes = subst (λ (lines : List (List ℕ)). Equals z lines l) (sym (closed-memory s)) settled-words;
+    accounts = k .good .balanced;
+    closing = subst (λ (t : Tally). t .fills ≡ t .displaced + t .flushed + t .invalidated) (sym (closed-tally s)) settled-balance;
+    seats = k .good .sound .seated;
+    sets = λ i h. k .good .sound .order i (subst (λ (n : ℕ). i < n) (sym (k .good .sound .seated)) h) .sized;
+    sized = sized-from (k .good);
+    sizedAtClosing = subst (Sized z) (sym (closed-memory s)) (sized-from (settled-good z (k .truth) (atWork s) (k .good)));
+  }
 
 -- every run since its opening
 pub since-promised : (z : Sizes) (s : System) (l : Ledger) → Since z s l → Promise z s l
@@ -121,9 +121,9 @@ since-calls [] since = since
 since-calls (call ∷ calls) since = since-calls calls (calling since call)
 
 pub coherence-holds : Coherence
-coherence-holds = record
-  { since = since-promised
-  ; always = λ cell law z sets width memory sized calls.
+coherence-holds = record {
+  since = since-promised;
+  always = λ cell law z sets width memory sized calls.
       since-promised z (after (z .width) calls (opened cell (z .seats) (z .sets) memory)) (ledgerAfter (z .seats) (addresses z) calls (begun (z .width) memory))
-      (since-calls calls (opening cell law sets width memory sized))
-  }
+      (since-calls calls (opening cell law sets width memory sized));
+}
