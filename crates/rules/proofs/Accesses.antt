@@ -59,7 +59,7 @@ module _ (z : Sizes) (cell : Protocol) (law : Lawful cell) (n : ℕ) (there : n 
       still : holds r n new ≡ false
       still = ap (λ (xs : List Copy). valid (stateAt xs r)) (e .same) ∙ miss
 
-      shared-moved : Moved (column new n) (readShared cell r (column new n)) r true (getD truth n [])
+      pub shared-moved : Moved (column new n) (readShared cell r (column new n)) r true (getD truth n [])
       shared-moved = readShared-moved (column new n) (getD truth n []) (e .good .sound .each n there) r (on-column (e .good) n r on) cell law
 
       filled-from : Good z truth (transact ReadShared r n (readShared cell r) new) × (holds r n (transact ReadShared r n (readShared cell r) new) ≡ true)

@@ -91,6 +91,10 @@ module _ (z : Sizes) (truth : List (List ℕ)) (m : Machine) (ok : Good z truth 
       ap (λ (c : Column). valid (stateAt (c .copies) r)) (transact-line t)
       ∙ ap valid (tidy-stateAt (f (column m n) .copies) r) ∙ moved .own
 
+  pub transact-other : (t : Transaction) (j : ℕ) → j ≢ n → copiesOf j (transact t r n f m .caches) ≡ copiesOf j (m .caches)
+  unfolding transact
+  transact-other t j ne = ap (λ (c : Column). c .copies) (installed-other z truth (m .caches) (m .memory) (ok .sound) n there r on (f (column m n)) holding line moved space j ne)
+
   -- a change that tells nothing
   pub change-sound : Sound z (set truth n line) (change n f m .caches) (change n f m .memory)
   unfolding change
@@ -220,7 +224,7 @@ pub record Emptied (z : Sizes) (truth : List (List ℕ)) (r n : ℕ) (m new : Ma
   pub same : copiesOf n (new .caches) ≡ copiesOf n (m .caches)
 
 -- a line's copies as another line of a seat goes
-other-goes : (lines sets : ℕ) (cs : List Cache) (r v n : ℕ) → ((k : ℕ) → k < length cs → Wf lines sets (getD cs k [])) → n ≢ v → copiesOf n (set cs r (put v (getD cs r []) none)) ≡ copiesOf n cs
+pub other-goes : (lines sets : ℕ) (cs : List Cache) (r v n : ℕ) → ((k : ℕ) → k < length cs → Wf lines sets (getD cs k [])) → n ≢ v → copiesOf n (set cs r (put v (getD cs r []) none)) ≡ copiesOf n cs
 other-goes lines sets [] r v n o ne = refl
 other-goes lines sets (c ∷ cs) zero v n o ne = ap (λ (x : Copy). x ∷ copiesOf n cs) (look-put-other lines sets c (o 0 (omega arith)) v none n ne)
 other-goes lines sets (c ∷ cs) (suc r) v n o ne = ap (λ (xs : List Copy). look c n ∷ xs) (other-goes lines sets cs r v n (λ k l. o (suc k) (omega arith)) ne)

@@ -85,6 +85,9 @@ agree-sym a b e = then (agree a b) (agree b a) (each2 (λ a b. imp (agree a b) (
 pub below-valid : (a b : State) → below a b ≡ true → valid a ≡ true → valid b ≡ true
 below-valid a b p e = then (valid a) (valid b) (then (below a b) (imp (valid a) (valid b)) (each2 (λ a b. imp (below a b) (imp (valid a) (valid b))) refl a b) p) e
 
+pub below-owned : (a b : State) → below a b ≡ true → owned a ≡ true → owned b ≡ true
+below-owned a b p e = then (owned a) (owned b) (then (below a b) (imp (owned a) (owned b)) (each2 (λ a b. imp (below a b) (imp (owned a) (owned b))) refl a b) p) e
+
 pub below-self : (a : State) → below a a ≡ true
 below-self a = each (λ a. below a a) refl a
 
@@ -149,6 +152,10 @@ module _ (cell : Protocol) (law : Lawful cell) where
   pub valid-RS : (r : ℕ) (lone : Bool) → valid (afterRS (cell r) lone) ≡ true
   valid-RS r true = within (λ b. valid (stateOf b)) (cell r 3) (codes "SE") (law r 3) refl
   valid-RS r false = refl
+
+  pub owned-RS : (r : ℕ) (lone : Bool) → owned (afterRS (cell r) lone) ≡ false
+  owned-RS r true = not-true _ (within (λ b. not (owned (stateOf b))) (cell r 3) (codes "SE") (law r 3) refl)
+  owned-RS r false = refl
 
   pub below-UP : (k : ℕ) (s : State) → below (heardUP (cell k) s) s ≡ true
   below-UP k Invalid = refl

@@ -8,3 +8,4 @@ pub mod Systems
 pub mod Ledgers
 pub mod Sessions
 pub mod Coherence
+pub mod Laws

@@ -1,5 +1,6 @@
 // The rules of the bus: what each transaction, access and call does, the ledger beside a run, and what is proved of them.
 ghost use Rattle.rules.specs.Coherence.{Coherence};
+ghost use Rattle.rules.specs.Laws.{BusLaws};
 ghost use Rattle.rules.specs.Sessions.{Sessions};
 
 mod call;
@@ -21,6 +22,13 @@ pub fn worked_sessions() -> u8
 /// Under every lawful protocol, after every list of calls, a run keeps what it owes its ledger.
 pub fn coherence() -> u8
     ensures { λ _. ⌜ Coherence ⌝ }
+{
+    0
+}
+
+/// What a refused call, a read, a flush and a settle leave alone, and who writes back.
+pub fn bus_laws() -> u8
+    ensures { λ _. ⌜ BusLaws ⌝ }
 {
     0
 }
