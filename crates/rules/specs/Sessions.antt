@@ -14,11 +14,13 @@ use lib.ListN.{getD, replicate}
 use Rattle.std.specs.declared.option.Option.{Option}
 use Rattle.std.specs.declared.option.Option.the-variants.{Some, None}
 use Rattle.refusal.specs.Refusals.{plain}
+use Rattle.protocol.specs.declared.transaction.Transaction.the-variants.{ReadShared, ThroughInvalidate, WriteBack}
 use Rattle.protocol.specs.States.{letter}
 use Rattle.protocol.specs.Transactions.{mnemonic}
 use Rattle.rules.specs.declared.call.Call.{Call}
 use Rattle.rules.specs.declared.call.Call.the-variants.{Read, Write, Flush, Settle}
 use Rattle.rules.specs.declared.record.Record.{Record}
+use Rattle.rules.specs.declared.record.Supplier.the-variants.{Nobody, Memory, Seat}
 use Rattle.rules.specs.Columns.{Copy}
 use Rattle.rules.specs.Transactions.{Protocol}
 use Rattle.rules.specs.Machines.{copiesOf}
@@ -103,6 +105,9 @@ pub record IllinoisSession : Type 0 where
   pub third : seen 0 (r 0 0 ∷ r 1 0 ∷ []) (w 1 1 7) board ≡ record { answer = 7; states = codes "IM"; bus = codes "IN1" ∷ [] }
   pub fourth : seen 0 (r 0 0 ∷ r 1 0 ∷ w 1 1 7 ∷ []) (r 0 1) board ≡ record { answer = 7; states = codes "SS"; bus = codes "RS0" ∷ [] }
   pub fifth : seen 2 (r 0 0 ∷ r 1 0 ∷ w 1 1 7 ∷ r 0 1 ∷ []) (w 0 8 5) board ≡ record { answer = 5; states = codes "MI"; bus = codes "RX0" ∷ [] }
+  pub supplied :
+      outcome 4 (r 0 1) (after 4 (r 0 0 ∷ r 1 0 ∷ w 1 1 7 ∷ []) board) .records
+      ≡ record { transaction = ReadShared; seat = 0; line = 0; shared = true; reflected = true; supplier = Seat 1 } ∷ []
   pub settle : outcome 4 Settle (after 4 (r 0 0 ∷ r 1 0 ∷ w 1 1 7 ∷ r 0 1 ∷ w 0 8 5 ∷ []) board) .answer ≡ 1
   pub close : closed (after 4 boardCalls board) ≡ record {
     memory = (0 ∷ 7 ∷ 0 ∷ 0 ∷ []) ∷ zeros ∷ (5 ∷ 0 ∷ 0 ∷ 0 ∷ []) ∷ zeros ∷ [];
@@ -163,6 +168,13 @@ pub record FourSession : Type 0 where
   pub four :
       seen 0 (w 0 4 1 ∷ w 0 4 2 ∷ w 1 0 3 ∷ []) (w 0 0 5) (small (split (table (codes "166SMEMEMSSSSIII")) 1 berkeley))
       ≡ record { answer = 5; states = codes "EI"; bus = codes "WB0" ∷ codes "RS0" ∷ codes "WB1" ∷ codes "TI0" ∷ [] }
+  pub told :
+      outcome 4 (w 0 0 5) (after 4 (w 0 4 1 ∷ w 0 4 2 ∷ w 1 0 3 ∷ []) (small (split (table (codes "166SMEMEMSSSSIII")) 1 berkeley))) .records
+      ≡ record { transaction = WriteBack; seat = 0; line = 1; shared = false; reflected = false; supplier = Nobody }
+      ∷ record { transaction = ReadShared; seat = 0; line = 0; shared = true; reflected = false; supplier = Seat 1 }
+      ∷ record { transaction = WriteBack; seat = 1; line = 0; shared = true; reflected = false; supplier = Nobody }
+      ∷ record { transaction = ThroughInvalidate; seat = 0; line = 0; shared = false; reflected = false; supplier = Nobody }
+      ∷ []
 
 -- two lines of four words have addresses 0 to 7
 pub record AddressSession : Type 0 where

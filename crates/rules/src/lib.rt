@@ -1,5 +1,6 @@
 // The rules of the bus: what each transaction, access and call does, the ledger beside a run, and what is proved of them.
 ghost use Rattle.rules.specs.Coherence.{Coherence};
+ghost use Rattle.rules.specs.Deciding.{Deciding};
 ghost use Rattle.rules.specs.Laws.{BusLaws};
 ghost use Rattle.rules.specs.Sessions.{Sessions};
 
@@ -15,6 +16,13 @@ pub use tally::Tally;
 /// The rules give the nine sessions worked out by hand.
 pub fn worked_sessions() -> u8
     ensures { λ _. ⌜ Sessions ⌝ }
+{
+    0
+}
+
+/// Each cell of a table decides what it is for, shown for every byte that it may hold.
+pub fn deciding_cells() -> u8
+    ensures { λ _. ⌜ Deciding ⌝ }
 {
     0
 }
