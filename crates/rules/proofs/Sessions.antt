@@ -20,6 +20,7 @@ sessions = record {
   mixed = record { saved = refl; memory = refl };
   four = record { four = refl; told = refl };
   addresses = record { last = λ _. refl; beyond = λ _. refl };
+  refusals = record { calls = refl; seat = refl; address = refl; places = refl; answered = refl; settle = refl; settleOver = refl };
 }
 
 pub deciding : Deciding

@@ -24,7 +24,7 @@ use Rattle.rules.specs.declared.record.Supplier.the-variants.{Nobody, Memory, 
 use Rattle.rules.specs.Columns.{Copy}
 use Rattle.rules.specs.Transactions.{Protocol}
 use Rattle.rules.specs.Machines.{copiesOf}
-use Rattle.rules.specs.Systems.{System, Outcome, Closing, opened, outcome, after, closed, dueIn}
+use Rattle.rules.specs.Systems.{System, Outcome, Closing, opened, outcome, after, closed, due, dueIn}
 
 -- every seat answers from one table
 abbrev pub table : List ℕ → Protocol
@@ -181,7 +181,17 @@ pub record AddressSession : Type 0 where
   pub last : (cell : Protocol) → dueIn 4 (small cell) (r 0 7) ≡ None
   pub beyond : (cell : Protocol) → dueIn 4 (small cell) (r 0 8) ≡ Some (plain 7)
 
--- the nine sessions
+-- the first check whose condition is met, on a bus of two seats over eight addresses
+pub record RefusalOrder : Type 0 where
+  pub calls : due 1000000 2 8 (Read 2 8 3) ≡ Some (plain 5)
+  pub seat : due 999999 2 8 (Read 2 8 3) ≡ Some (plain 6)
+  pub address : due 999999 2 8 (Write 1 8 0 3) ≡ Some (plain 7)
+  pub places : due 999999 2 8 (Flush 1 7 3) ≡ Some (plain 8)
+  pub answered : due 999999 2 8 (Flush 1 7 4) ≡ None
+  pub settle : due 999999 2 8 Settle ≡ None
+  pub settleOver : due 1000000 2 8 Settle ≡ Some (plain 5)
+
+-- the nine sessions, and the order of the checks
 pub record Sessions : Type 0 where
   pub illinois : IllinoisSession
   pub writeonce : WriteonceSession
@@ -192,3 +202,4 @@ pub record Sessions : Type 0 where
   pub mixed : MixedSession
   pub four : FourSession
   pub addresses : AddressSession
+  pub refusals : RefusalOrder
