@@ -7,9 +7,8 @@ use native.Mathlib.Omega.{arith}
 use lib.ListN.{length, getD, set, take, drop}
 use lib.Seq.{take-set-lt}
 use Rattle.std.proofs.shelf.Lists.{take-append-drop, append-assoc, append-nil, drop-drop, drop-all, drop-more, drop-set, length-append, length-drop, length-take-le, getD-drop, getD-set-same, set-append-right, set-getD, set-set, take-all, take-more, take-more-set, take-set-le, drop-set-lt, drop-set-add, length-set}
-use Rattle.std.specs.shelf.Lists.{joined}
 use Rattle.memory.specs.Lines.{Shaped, Lawful, wordWritten, wordsInLine}
-use Rattle.memory.specs.Words.{whole, cut, linesOf, spareOf}
+use Rattle.memory.specs.Words.{whole, cut, linesOf, spareOf, flat}
 
 -- over any width
 module _ (w : ℕ) where
@@ -42,11 +41,11 @@ module _ (w : ℕ) where
       let up : w * suc i ≤ w * n = mul-le-mul-left w h in
       drop-set-lt (w * n) ws (w * i + j) v (omega (arith, next i))
 
-  pub joined-cut : (n : ℕ) (ws : List ℕ) → joined (λ l. l) (cut w n ws) ++ drop (w * n) ws ≡ ws
-  joined-cut zero ws = rw (mul-zero w)
-  joined-cut (suc n) ws =
-      let t : joined (λ l. l) (cut w n (drop w ws)) ++ drop (w + w * n) ws ≡ drop w ws = rw (← drop-drop (w * n) w ws) (joined-cut n (drop w ws)) in
-      rw (next n, append-assoc (take w ws) (joined (λ l. l) (cut w n (drop w ws))) (drop (w + w * n) ws), t, take-append-drop w ws)
+  pub flat-cut : (n : ℕ) (ws : List ℕ) → flat (cut w n ws) ++ drop (w * n) ws ≡ ws
+  flat-cut zero ws = rw (mul-zero w)
+  flat-cut (suc n) ws =
+      let t : flat (cut w n (drop w ws)) ++ drop (w + w * n) ws ≡ drop w ws = rw (← drop-drop (w * n) w ws) (flat-cut n (drop w ws)) in
+      rw (next n, append-assoc (take w ws) (flat (cut w n (drop w ws))) (drop (w + w * n) ws), t, take-append-drop w ws)
 
 -- the lines of plain memory
 pub whole-fits : (len : ℕ) → wordsInLine * whole len ≤ len
@@ -74,9 +73,9 @@ module _ (ws : List ℕ) where
   pub lawful-lines : Lawful (linesOf ws) (linesOf ws)
   lawful-lines = record { level = refl; most = omega (arith, length-lines); shaped = line-long; bottom = line-long }
 
-  pub words-are : joined (λ l. l) (linesOf ws) ++ spareOf ws ≡ ws
+  pub words-are : ws ≡ flat (linesOf ws) ++ spareOf ws
   unfolding linesOf spareOf
-  words-are = joined-cut wordsInLine (whole (length ws)) ws
+  words-are = sym (flat-cut wordsInLine (whole (length ws)) ws)
 
   module _ (i j v : ℕ) (h : i < whole (length ws)) (k : j < wordsInLine) where
     pub lines-set : linesOf (set ws (wordsInLine * i + j) v) ≡ wordWritten (linesOf ws) i j v

@@ -1,2 +1,4 @@
+pub mod Ages
 pub mod Lines
+pub mod Waits
 pub mod Words

@@ -4,10 +4,9 @@ ghost use lib.ListN.{length, getD, set};
 ghost use mathlib.Core.List.{List, [], _++_};
 ghost use mathlib.Core.Path.{_≡_};
 ghost use Rattle.std.specs.Of.Vec.{vec-items, vec-len};
-ghost use Rattle.std.specs.shelf.Lists.{joined};
-ghost use Rattle.refusal.specs.Refusals.{Answers, Answered, Kept};
+ghost use Rattle.refusal.specs.Refusals.{Answers, Kept};
 ghost use Rattle.memory.specs.Lines.{lineDue, wordWritten};
-ghost use Rattle.memory.specs.Words.{linesOf, spareOf, whole};
+ghost use Rattle.memory.specs.Words.{linesOf, spareOf, whole, flat, plainLines, plainSpare};
 use crate::interface::Memory;
 use refusal::Refusal;
 
@@ -23,21 +22,24 @@ pub struct Plain {
 impl Plain {
     /// A memory over these words: as many whole lines as they make, and at most 16,384.
     pub fn new(words: Vec<u32>) -> Plain
-        ensures { λ r. ⌜ r .words ≡ words ⌝ }
+        ensures lines { λ r. ⌜ plainLines r ≡ linesOf (vec-items words) ⌝ }
+        ensures spare { λ r. ⌜ plainSpare r ≡ spareOf (vec-items words) ⌝ }
+        ensures words { λ r. ⌜ r .words ≡ words ⌝ }
     {
         Plain { words }
     }
 
     /// The words, those of the lines first and then the spare ones.
     pub fn into_words(self) -> Vec<u32>
-        ensures { λ r. ⌜ r ≡ self .words ⌝ }
+        ensures items { λ r. ⌜ vec-items r ≡ flat (plainLines self) ++ plainSpare self ⌝ }
+        ensures words { λ r. ⌜ r ≡ self .words ⌝ }
     {
         let Plain { words } = self;
         words
     }
 
     fn lines(&self) -> usize
-        ensures lines { λ r. ⌜ r ≡ length (linesOf (vec-items (now (self .entry) .words))) ⌝ }
+        ensures lines { λ r. ⌜ r ≡ length (plainLines (now (self .entry))) ⌝ }
         ensures whole { λ r. ⌜ r ≡ whole (length (vec-items (now (self .entry) .words))) ⌝ }
     {
         (self.words.len() / WORDS_IN_LINE).min(MOST_LINES)
@@ -45,7 +47,7 @@ impl Plain {
 
     fn line_words(&self, line: usize) -> [u32; 4]
         requires { ⌜ line < whole (length (vec-items (now self .words))) ⌝ }
-        ensures { λ r. ⌜ r ≡ getD (linesOf (vec-items (now (self .entry) .words))) line [] ⌝ }
+        ensures { λ r. ⌜ r ≡ getD (plainLines (now (self .entry))) line [] ⌝ }
     {
         let mut words = [0; WORDS_IN_LINE];
         let start = WORDS_IN_LINE * line;
@@ -58,8 +60,8 @@ impl Plain {
     fn put(&mut self, line: usize, word: usize, value: u32)
         requires within { ⌜ line < whole (length (vec-items (now self .words))) ⌝ }
         requires short { ⌜ word < 4 ⌝ }
-        ensures lines { λ _. ⌜ linesOf (vec-items (now (self .exit) .words)) ≡ wordWritten (linesOf (vec-items (now (self .entry) .words))) line word value ⌝ }
-        ensures spare { λ _. ⌜ spareOf (vec-items (now (self .exit) .words)) ≡ spareOf (vec-items (now (self .entry) .words)) ⌝ }
+        ensures lines { λ _. ⌜ plainLines (now (self .exit)) ≡ wordWritten (plainLines (now (self .entry))) line word value ⌝ }
+        ensures spare { λ _. ⌜ plainSpare (now (self .exit)) ≡ plainSpare (now (self .entry)) ⌝ }
         ensures same { λ _. ⌜ length (vec-items (now (self .exit) .words)) ≡ length (vec-items (now (self .entry) .words)) ⌝ }
     {
         self.words[WORDS_IN_LINE * line + word] = value;
@@ -67,8 +69,8 @@ impl Plain {
 
     fn put_line(&mut self, line: usize, words: [u32; 4])
         requires { ⌜ line < whole (length (vec-items (now self .words))) ⌝ }
-        ensures lines { λ _. ⌜ linesOf (vec-items (now (self .exit) .words)) ≡ set (linesOf (vec-items (now (self .entry) .words))) line words ⌝ }
-        ensures spare { λ _. ⌜ spareOf (vec-items (now (self .exit) .words)) ≡ spareOf (vec-items (now (self .entry) .words)) ⌝ }
+        ensures lines { λ _. ⌜ plainLines (now (self .exit)) ≡ set (plainLines (now (self .entry))) line words ⌝ }
+        ensures spare { λ _. ⌜ plainSpare (now (self .exit)) ≡ plainSpare (now (self .entry)) ⌝ }
     {
         for word in 0..WORDS_IN_LINE {
             self.put(line, word, words[word]);
@@ -77,13 +79,13 @@ impl Plain {
 }
 
 pub impl Memory for Plain as PlainMemory {
-    ghost lines = { λ m. linesOf (vec-items (m .words)) };
+    ghost lines = { plainLines };
 
-    ghost settled = { λ m. linesOf (vec-items (m .words)) };
+    ghost settled = { plainLines };
 
     ghost Aside = { List ℕ };
 
-    ghost aside = { λ m. spareOf (vec-items (m .words)) };
+    ghost aside = { plainSpare };
 
     fn count(&self) -> usize {
         self.lines()
