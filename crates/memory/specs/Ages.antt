@@ -4,6 +4,10 @@
 -- waits      a line that waits, with its words
 -- holds      whether a line waits
 -- Newest     a place where a line waits, with none newer
+-- withWords  a waiting line with its words changed
+-- full       as many lines wait as may
+-- changed    the waiting lines after the words of one changed
+-- over       what stands below, as it will be once all that waits has gone down
 use Prim.Native.Nat.{ℕ, _+_, _<_}
 use mathlib.Core.Path.{_≡_}
 use mathlib.Core.List.{List, [], _∷_}
@@ -38,3 +42,14 @@ pub record Newest (line : ℕ) (ws : List Waiting) (i : ℕ) : Type 0 where
   pub within : i < length ws
   pub here : getD ws i blank .line ≡ line
   pub last : holds line (drop (i + 1) ws) ≡ false
+
+-- the words of a waiting line changed where it waits, at the newest such place; every line keeps its age
+abbrev pub changed : ℕ → (List ℕ → List ℕ) → List Waiting → List Waiting
+changed line f [] = []
+changed line f (w ∷ ws) =
+    cond (holds line ws) (w ∷ changed line f ws) (cond (eqb (w .line) line) (withWords f w ∷ ws) (w ∷ ws))
+
+-- lines with each waiting line put over them, oldest first
+abbrev pub over : List Waiting → List (List ℕ) → List (List ℕ)
+over [] lines = lines
+over (w ∷ ws) lines = over ws (set lines (w .line) (w .words))

@@ -2,8 +2,11 @@
 mod interface;
 mod plain_memory;
 mod queue;
+mod write_buffer;
 
 pub use interface::Memory;
 pub use plain_memory::Plain;
 pub use plain_memory::PlainMemory;
 pub use queue::Waiting;
+pub use write_buffer::BufferedMemory;
+pub use write_buffer::WriteBuffer;
