@@ -77,9 +77,9 @@ set-from : (f : List ℕ → List ℕ) (xs : List (List ℕ)) (i : ℕ) (v : Lis
 set-from f xs i v =
     set-set xs i v (f (getD (set xs i v) i []))
     ∙ ⊎-elim
-      (λ h. ap (λ x. set xs i (f x)) (getD-set-same xs i v [] h))
-      (λ h. set-past xs i (f (getD (set xs i v) i [])) h ∙ sym (set-past xs i (f v) h))
-      (cases-lt i (length xs))
+    (λ h. ap (λ x. set xs i (f x)) (getD-set-same xs i v [] h))
+    (λ h. set-past xs i (f (getD (set xs i v) i [])) h ∙ sym (set-past xs i (f v) h))
+    (cases-lt i (length xs))
 
 -- a change of a line that waits at the first place only
 changed-first : (line : ℕ) (f : List ℕ → List ℕ) (w : Waiting) (ws : List Waiting) (lines : List (List ℕ)) → w .line ≡ line → holds line ws ≡ false → over (withWords f w ∷ ws) lines ≡ set (over (w ∷ ws) lines) line (f (getD (over (w ∷ ws) lines) line []))
@@ -96,8 +96,8 @@ over-changed line f (w ∷ ws) lines h =
     cond-both (holds line ws) (w ∷ changed line f ws) (cond (eqb (w .line) line) (withWords f w ∷ ws) (w ∷ ws)) Goal
     (λ t. over-changed line f ws (set lines (w .line) (w .words)) t)
     (λ t. cond-both (eqb (w .line) line) (withWords f w ∷ ws) (w ∷ ws) Goal
-      (λ e. changed-first line f w ws lines (eqb-true (w .line) line e) t)
-      (λ e. absurd (both-ways (eqb (w .line) line || holds line ws) (or-from (eqb (w .line) line) (holds line ws) e t) h)))
+    (λ e. changed-first line f w ws lines (eqb-true (w .line) line e) t)
+    (λ e. absurd (both-ways (eqb (w .line) line || holds line ws) (or-from (eqb (w .line) line) (holds line ws) e t) h)))
 
 -- what a call of the buffer comes to for its reader
 pub seen-sent : (b : Buffer) → seen (sentFrom (b .waiting) (b .below)) ≡ seen b

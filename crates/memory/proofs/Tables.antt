@@ -53,8 +53,8 @@ module _ (t : List Waiting) (n : ℕ) (le : n ≤ length t) where
         (or-from _ _ (ne-eqb (getD t (i - 1) blank .line) line other) rest)
 
     pub newest-here : getD t (i - 1) blank .line ≡ line → Newest line (take n t) (i - 1)
-    newest-here e = record
-      { within = omega (arith, front-long)
-      ; here = ap (λ w. w .line) (front-at (i - 1) (omega arith)) ∙ e
-      ; last = rw up rest
-      }
+    newest-here e = record {
+      within = omega (arith, front-long);
+      here = ap (λ w. w .line) (front-at (i - 1) (omega arith)) ∙ e;
+      last = rw up rest;
+    }

@@ -15,6 +15,7 @@ const WORDS_IN_LINE: usize = 4;
 const MOST_LINES: usize = 16384;
 
 /// A memory over words of its own.
+#[derive(Drop)]
 pub struct Plain {
     words: Vec<u32>,
 }

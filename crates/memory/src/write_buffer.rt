@@ -16,6 +16,7 @@ use crate::queue::Waiting;
 use refusal::Refusal;
 
 /// A memory, and the written lines that have not reached it yet.
+#[derive(Drop)]
 pub struct WriteBuffer<M> {
     below: M,
     queue: Queue,
@@ -27,7 +28,10 @@ impl<M: Memory> WriteBuffer<M> {
         ensures below { λ r. ⌜ r .below ≡ below ⌝ }
         ensures waiting { λ r. ⌜ waitingIn (r .queue) ≡ [] ⌝ }
     {
-        WriteBuffer { below, queue: Queue::new() }
+        WriteBuffer {
+            below,
+            queue: Queue::new(),
+        }
     }
 
     /// The lines that wait, oldest first.

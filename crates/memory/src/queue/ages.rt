@@ -16,7 +16,13 @@ impl Queue {
     pub fn new() -> Queue
         ensures { λ r. ⌜ waitingIn r ≡ [] ⌝ }
     {
-        Queue { table: [Waiting { line: 0, words: [0; 4] }; 4], count: 0 }
+        Queue {
+            table: [Waiting {
+                line: 0,
+                words: [0; 4],
+            }; 4],
+            count: 0,
+        }
     }
 
     /// The waiting lines, oldest first.
