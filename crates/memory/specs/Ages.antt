@@ -4,6 +4,7 @@
 -- waits      a line that waits, with its words
 -- holds      whether a line waits
 -- Newest     a place where a line waits, with none newer
+-- Apart      no line waits twice
 -- withWords  a waiting line with its words changed
 -- full       as many lines wait as may
 -- changed    the waiting lines after the words of one changed
@@ -43,11 +44,14 @@ pub record Newest (line : ℕ) (ws : List Waiting) (i : ℕ) : Type 0 where
   pub here : getD ws i blank .line ≡ line
   pub last : holds line (drop (i + 1) ws) ≡ false
 
--- the words of a waiting line changed where it waits, at the newest such place; every line keeps its age
+-- no line waits twice
+abbrev pub Apart : List Waiting → Type 0
+Apart ws = (i j : ℕ) → i < j → j < length ws → getD ws i blank .line ≡ getD ws j blank .line → ⊥
+
+-- the words of a waiting line changed where it waits; every line keeps its age
 abbrev pub changed : ℕ → (List ℕ → List ℕ) → List Waiting → List Waiting
 changed line f [] = []
-changed line f (w ∷ ws) =
-    cond (holds line ws) (w ∷ changed line f ws) (cond (eqb (w .line) line) (withWords f w ∷ ws) (w ∷ ws))
+changed line f (w ∷ ws) = cond (eqb (w .line) line) (withWords f w) w ∷ changed line f ws
 
 -- lines with each waiting line put over them, oldest first
 abbrev pub over : List Waiting → List (List ℕ) → List (List ℕ)

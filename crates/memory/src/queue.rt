@@ -1,8 +1,8 @@
 // The lines that wait in a write buffer, oldest first.
 ghost use Prim.Native.Nat.{ℕ, _≤_, _<_};
-ghost use lib.ListN.{length, getD};
+ghost use lib.ListN.{length, getD, take};
 ghost use mathlib.Core.Path.{_≡_};
-ghost use Rattle.memory.specs.Ages.{blank};
+ghost use Rattle.memory.specs.Ages.{blank, Apart};
 
 mod ages;
 
@@ -20,5 +20,6 @@ pub struct Queue {
     count: usize,
     ghost within: { count ≤ 4 },
     ghost places: { length table ≡ 4 },
+    ghost apart: { Apart (take count table) },
     ghost wide: { (k : ℕ) → k < 4 → length (getD table k blank .words) ≡ 4 },
 }

@@ -7,7 +7,7 @@ ghost use Rattle.std.specs.Vec.{made};
 ghost use Rattle.refusal.specs.Refusals.{Answers, Kept};
 ghost use Rattle.memory.specs.Lines.{lineDue, wordDue, wordWritten};
 ghost use mathlib.Core.Bool.{true, false};
-ghost use Rattle.memory.specs.Ages.{full};
+ghost use Rattle.memory.specs.Ages.{Apart, full, holds};
 ghost use Rattle.memory.specs.Waits.{waitingIn};
 ghost use Rattle.memory.specs.Buffers.{buffer, seen, sentFrom, come, roomMade, lineTaken, wordTaken, allSent};
 use crate::interface::Memory;
@@ -36,7 +36,8 @@ impl<M: Memory> WriteBuffer<M> {
 
     /// The lines that wait, oldest first.
     pub fn waiting(&self) -> &[Waiting]
-        ensures { λ r. ⌜ now r ≡ waitingIn (now (self .entry) .queue) ⌝ }
+        ensures lines { λ r. ⌜ now r ≡ waitingIn (now (self .entry) .queue) ⌝ }
+        ensures apart { λ r. ⌜ Apart (now r) ⌝ }
     {
         self.queue.waiting()
     }
@@ -88,6 +89,7 @@ impl<M: Memory> WriteBuffer<M> {
 
     /// A line comes as the youngest, once there is room.
     fn enqueue(&mut self, line: usize, words: [u32; 4])
+        requires { ⌜ holds line (waitingIn (now self .queue)) ≡ false ⌝ }
         ensures come { λ _. ⌜ buffer (M·Memory .lines) (now (self .exit)) ≡ come line words (roomMade (buffer (M·Memory .lines) (now (self .entry)))) ⌝ }
         ensures aside { λ _. ⌜ M·Memory .aside (now (self .exit) .below) ≡ M·Memory .aside (now (self .entry) .below) ⌝ }
     {

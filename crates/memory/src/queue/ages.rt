@@ -6,7 +6,7 @@ ghost use mathlib.Core.Bool.{Bool, true, false};
 ghost use mathlib.Core.Path.{_≡_};
 ghost use lib.Dec.{ltb};
 ghost use Rattle.std.specs.Options.{Cases as BySome};
-ghost use Rattle.memory.specs.Ages.{blank, full, holds, Newest, waits, withWords};
+ghost use Rattle.memory.specs.Ages.{blank, Apart, full, holds, Newest, waits, withWords};
 ghost use Rattle.memory.specs.Waits.{waitingIn};
 use crate::queue::Queue;
 use crate::queue::Waiting;
@@ -27,7 +27,8 @@ impl Queue {
 
     /// The waiting lines, oldest first.
     pub fn waiting(&self) -> &[Waiting]
-        ensures { λ r. ⌜ now r ≡ waitingIn (now (self .entry)) ⌝ }
+        ensures lines { λ r. ⌜ now r ≡ waitingIn (now (self .entry)) ⌝ }
+        ensures apart { λ r. ⌜ Apart (now r) ⌝ }
     {
         &self.table[0..self.count]
     }
@@ -78,7 +79,8 @@ impl Queue {
 
     /// A line comes, as the youngest.
     pub fn push(&mut self, line: usize, words: [u32; 4])
-        requires { ⌜ full (waitingIn (now self)) ≡ false ⌝ }
+        requires room { ⌜ full (waitingIn (now self)) ≡ false ⌝ }
+        requires other { ⌜ holds line (waitingIn (now self)) ≡ false ⌝ }
         ensures { λ _. ⌜ waitingIn (now (self .exit)) ≡ waitingIn (now (self .entry)) ++ waits line words ∷ [] ⌝ }
     {
         self.table[self.count] = Waiting { line, words };
