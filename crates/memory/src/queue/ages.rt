@@ -7,7 +7,11 @@ ghost use mathlib.Core.Path.{_≡_};
 ghost use lib.Dec.{ltb};
 ghost use Rattle.std.specs.Options.{Cases as BySome};
 ghost use Rattle.memory.specs.Ages.{blank, Apart, full, holds, Newest, waits, withWords};
+ghost use Rattle.memory.specs.Lines.{wordsInLine};
 ghost use Rattle.memory.specs.Waits.{waitingIn};
+use crate::interface::Line;
+use crate::interface::WORDS_IN_LINE;
+use crate::queue::PLACES;
 use crate::queue::Queue;
 use crate::queue::Waiting;
 
@@ -19,8 +23,8 @@ impl Queue {
         Queue {
             table: [Waiting {
                 line: 0,
-                words: [0; 4],
-            }; 4],
+                words: [0; WORDS_IN_LINE],
+            }; PLACES],
             count: 0,
         }
     }
@@ -37,7 +41,7 @@ impl Queue {
     pub fn is_full(&self) -> bool
         ensures { λ r. ⌜ r ≡ full (waitingIn (now (self .entry))) ⌝ }
     {
-        self.count == 4
+        self.count == PLACES
     }
 
     /// Where a line waits: the newest such place.
@@ -53,7 +57,7 @@ impl Queue {
     }
 
     /// The words of the line at a place.
-    pub fn words(&self, place: usize) -> [u32; 4]
+    pub fn words(&self, place: usize) -> Line
         requires { ⌜ place < length (waitingIn (now self)) ⌝ }
         ensures { λ r. ⌜ r ≡ getD (waitingIn (now (self .entry))) place blank .words ⌝ }
     {
@@ -61,7 +65,7 @@ impl Queue {
     }
 
     /// Puts words into the line at a place.
-    pub fn replace(&mut self, place: usize, words: [u32; 4])
+    pub fn replace(&mut self, place: usize, words: Line)
         requires { ⌜ place < length (waitingIn (now self)) ⌝ }
         ensures { λ _. ⌜ waitingIn (now (self .exit)) ≡ set (waitingIn (now (self .entry))) place (withWords (λ _. words) (getD (waitingIn (now (self .entry))) place blank)) ⌝ }
     {
@@ -71,14 +75,14 @@ impl Queue {
     /// Puts a value into one word of the line at a place.
     pub fn change(&mut self, place: usize, word: usize, value: u32)
         requires within { ⌜ place < length (waitingIn (now self)) ⌝ }
-        requires short { ⌜ word < 4 ⌝ }
+        requires short { ⌜ word < wordsInLine ⌝ }
         ensures { λ _. ⌜ waitingIn (now (self .exit)) ≡ set (waitingIn (now (self .entry))) place (withWords (λ words. set words word value) (getD (waitingIn (now (self .entry))) place blank)) ⌝ }
     {
         self.table[place].words[word] = value;
     }
 
     /// A line comes, as the youngest.
-    pub fn push(&mut self, line: usize, words: [u32; 4])
+    pub fn push(&mut self, line: usize, words: Line)
         requires room { ⌜ full (waitingIn (now self)) ≡ false ⌝ }
         requires other { ⌜ holds line (waitingIn (now self)) ≡ false ⌝ }
         ensures { λ _. ⌜ waitingIn (now (self .exit)) ≡ waitingIn (now (self .entry)) ++ waits line words ∷ [] ⌝ }
