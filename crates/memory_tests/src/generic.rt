@@ -1,10 +1,12 @@
 // Code over any memory: it knows no more than a memory's meaning.
+ghost use Prim.Native.Nat.{_*_};
 ghost use lib.ListN.{length, getD, set};
 ghost use mathlib.Core.List.{[]};
 ghost use mathlib.Core.Path.{_≡_};
 ghost use Rattle.refusal.specs.Refusals.{Answers};
-ghost use Rattle.memory.specs.Lines.{lineDue, wordWritten};
+ghost use Rattle.memory.specs.Lines.{lineDue, wordWritten, wordsInLine};
 use memory::Memory;
+use memory::WORDS_IN_LINE;
 use refusal::Refusal;
 
 /// Writes a line, then one word of it, settles both, and reads the line back.
@@ -24,4 +26,11 @@ pub fn write_through<M: Memory>(
     let _ = memory.write_word(line, word, value);
     memory.drain();
     memory.read_line(line)
+}
+
+/// How many words the lines have. A memory's law keeps the product in range.
+pub fn words_in<M: Memory>(memory: &M) -> usize
+    ensures { λ r. ⌜ r ≡ wordsInLine * length (M·Memory .lines (now (memory .entry))) ⌝ }
+{
+    WORDS_IN_LINE * memory.count()
 }

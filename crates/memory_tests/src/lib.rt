@@ -4,6 +4,7 @@ mod generic;
 
 pub use counting::Counting;
 pub use counting::CountingMemory;
+pub use generic::words_in;
 pub use generic::write_through;
 
 #[cfg(test)]
