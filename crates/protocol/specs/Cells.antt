@@ -1,9 +1,11 @@
 -- The cells of a protocol table, and the bus laws: the set that each cell lies in.
 --
 -- cellSets   the sets, cell 0 first
--- allowed    a byte keeps the law of a cell; above the last cell only byte 0 does
+-- cellSet    one of them; above the last cell only byte 0 is in it
+-- allowed    a byte lies in a cell's set
 -- among      a number stands in a list
 -- Lawful     a protocol, as what it answers for a seat and a cell, keeps the law throughout
+-- FilledState  the states that a copy filled alone may have
 use Prim.Native.Nat.{ℕ}
 use mathlib.Core.Path.{_≡_}
 use mathlib.Core.Bool.{Bool, true, false, _||_}
@@ -11,6 +13,9 @@ use mathlib.Core.List.{List, [], _∷_}
 use lib.Dec.{eqb}
 use lib.Chars.{codes}
 use lib.ListN.{getD}
+use mathlib.Core.Logic.{_⊎_}
+use Rattle.protocol.specs.declared.state.State.{State}
+use Rattle.protocol.specs.declared.state.State.the-variants.{Shared, Exclusive}
 
 -- the number stands in the list
 abbrev pub among : ℕ → List ℕ → Bool
@@ -38,10 +43,18 @@ cellSets =
     ∷ codes "IS"  -- 15: write through with update heard at Shared
     ∷ []
 
--- byte b keeps the law of cell k; above the last cell a protocol answers 0
+-- the set of cell k; above the last cell a protocol answers 0
+abbrev pub cellSet : ℕ → List ℕ
+cellSet k = getD cellSets k (0 ∷ [])
+
+-- byte b keeps the law of cell k
 abbrev pub allowed : ℕ → ℕ → Bool
-allowed k b = among b (getD cellSets k (0 ∷ []))
+allowed k b = among b (cellSet k)
 
 -- each seat's answer keeps the law at each cell
 abbrev pub Lawful : (ℕ → ℕ → ℕ) → Type 0
 Lawful cells = (seat k : ℕ) → allowed k (cells seat k) ≡ true
+
+-- a copy that is filled alone may stand so
+abbrev pub FilledState : State → Type 0
+FilledState s = (s ≡ Shared) ⊎ (s ≡ Exclusive)

@@ -1,3 +1,6 @@
 pub mod States
 pub mod Transactions
 pub mod Cells
+pub mod CellNames
+pub mod Published
+pub mod Tables

@@ -1,0 +1,6 @@
+// The trace text: the words that choose a protocol.
+mod choice;
+mod names;
+
+pub use choice::Choice;
+pub use choice::ChoiceProtocol;
