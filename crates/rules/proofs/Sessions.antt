@@ -16,7 +16,7 @@ sessions = record {
   berkeley = record { supplied = refl; behind = refl };
   dragon = record { updated = refl; behind = refl };
   firefly = record { updated = refl; through = refl };
-  writethrough = record { through = refl; memory = refl };
+  writethrough = record { through = refl; memory = refl; stays = refl };
   mixed = record { saved = refl; memory = refl };
   four = record { four = refl; told = refl };
   addresses = record { last = λ _. refl; beyond = λ _. refl };
