@@ -1,11 +1,11 @@
 -- The laws of whole calls.
 --
 -- Honest   what was told so far of write backs is by owners of the beginning, and every owner owned then
-use Prim.Native.Nat.{ℕ, zero, suc, _+_, _*_, _/_, _%_, _<_, _≤_}
+use Prim.Native.Nat.{ℕ, _+_, _/_, _%_, _<_, _≤_}
 use native.Mathlib.Nat.{zero-add}
 use native.Mathlib.Omega.{arith}
 use mathlib.Core.Path.{_≡_, refl, sym, _∙_, ap, subst}
-use mathlib.Core.Logic.{_≢_, _⊎_, inl, inr, ⊎-elim}
+use mathlib.Core.Logic.{_≢_, ⊎-elim}
 use mathlib.Core.Bool.{Bool, true, false, cond}
 use mathlib.Core.List.{List, [], _∷_, _++_, map}
 use lib.ListN.{length, getD, set}
@@ -14,7 +14,7 @@ use Rattle.std.specs.declared.option.Option.the-variants.{Some, None}
 use Rattle.std.specs.shelf.Lists.{All}
 use Rattle.std.proofs.shelf.Elements.{all-push}
 use Rattle.std.proofs.shelf.Lists.{getD-set-same, getD-set-other, map-set}
-use Rattle.std.proofs.shelf.Tests.{cases-eq, cases-lt, cases-bool, both-ways, false≢true}
+use Rattle.std.proofs.shelf.Tests.{cases-eq, both-ways, false≢true}
 use Rattle.refusal.specs.Refusals.{Told}
 use Rattle.protocol.specs.declared.state.State.{State}
 use Rattle.protocol.specs.declared.state.State.the-variants.{Invalid, Shared, Exclusive, Owned, Modified}
@@ -25,23 +25,22 @@ use Rattle.protocol.specs.Cells.{Lawful}
 use Rattle.protocol.specs.Transactions.{digitTransaction}
 use Rattle.rules.specs.declared.call.Call.{Call}
 use Rattle.rules.specs.declared.call.Call.the-variants.{Read, Write, Flush, Settle}
-use Rattle.rules.specs.declared.record.Record.{Record}
 use Rattle.rules.specs.Columns.{Copy, none, Column, stateAt, one, alone, supplied, ownerOf}
 use Rattle.rules.specs.Transactions.{Protocol, hear, heardRS, afterRS, same, readShared, readInvalidate, invalidate, update, throughUpdate, throughInvalidate, writeBack, silent, dropped}
 use Rattle.rules.specs.Caches.{Cache, look, room, victim, put}
-use Rattle.rules.specs.Machines.{Machine, column, copiesOf, putEach, holds, recordOf, change, transact}
+use Rattle.rules.specs.Machines.{Machine, column, copiesOf, holds, recordOf, change, transact}
 use Rattle.rules.specs.Accesses.{stateIn, writtenBackIf, letGo, emptiedIf, emptied, flushedIf, flushed, filled, fetchedIf, fetched, ownerWritesBack, savedFrom, through, sentBy, writtenAt, writtenHeld, missedBy, writtenIf, written, settled}
 use Rattle.rules.specs.Systems.{System, Outcome, stateOn, atWork, placesNeeded, dueIn, reached, ended, outcomeIf, outcome, after}
 use Rattle.rules.specs.Ledgers.{Ledger}
-use Rattle.rules.specs.Coherence.{Sizes, addresses, Since}
+use Rattle.rules.specs.Coherence.{Sizes, addresses}
 use Rattle.rules.specs.Laws.{displacedIf, displaced, ByOwner, BusLaws}
 use Rattle.rules.proofs.Tables.{below-owned, below-RS, owned-RS, unheld-unowned}
 use Rattle.rules.proofs.Seats.{Found, owner-owns}
 use Rattle.rules.proofs.Lines.{Turned, by-hearing}
 use Rattle.rules.proofs.Sets.{tidy}
 use Rattle.rules.proofs.Caches.{Wf, look-put-same, look-put-other, victim-line, victim-other}
-use Rattle.rules.proofs.Machines.{Sound, column-at, putEach-same, tidy-stateAt}
-use Rattle.rules.proofs.Steps.{Good, transact-line, transact-other, on-column, seat-order, back-good, back-caches, letGo-good, LetGo, Emptied, emptied-good, other-goes}
+use Rattle.rules.proofs.Machines.{column-at, putEach-same, tidy-stateAt}
+use Rattle.rules.proofs.Steps.{Good, transact-line, transact-other, on-column, seat-order, letGo-good, Emptied, emptied-good, other-goes}
 use Rattle.rules.proofs.Accesses.{shared-moved, filled-good, fetched-good}
 use Rattle.rules.proofs.Settling.{settled-clear}
 use Rattle.rules.proofs.Calls.{InStep, line-of, access-on, in-step}

@@ -1,6 +1,6 @@
 -- The nine worked sessions and what each cell decides, by computation.
 use mathlib.Core.Path.{refl}
-use Rattle.rules.specs.Sessions.{Sessions, IllinoisSession, WriteonceSession, BerkeleySession, DragonSession, FireflySession, WritethroughSession, MixedSession, FourSession, AddressSession}
+use Rattle.rules.specs.Sessions.{Sessions}
 use Rattle.rules.specs.Deciding.{Deciding}
 use Rattle.rules.specs.Transactions.{readShared, readInvalidate, invalidate, update, throughUpdate, throughInvalidate, writeBack, silent, dropped}
 use Rattle.rules.specs.Caches.{look, room, victim, put, linesAt}

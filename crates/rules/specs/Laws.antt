@@ -7,7 +7,7 @@ use Prim.Native.Nat.{ℕ, _/_, _≤_}
 use mathlib.Core.Path.{_≡_}
 use mathlib.Core.Logic.{_≢_}
 use mathlib.Core.Bool.{Bool, true, false}
-use mathlib.Core.List.{List, [], _∷_, _++_}
+use mathlib.Core.List.{List, [], _++_}
 use lib.ListN.{length, getD, set}
 use Rattle.std.specs.declared.option.Option.{Option}
 use Rattle.std.specs.declared.option.Option.the-variants.{Some, None}
@@ -16,7 +16,7 @@ use Rattle.refusal.specs.Refusals.{Told}
 use Rattle.protocol.specs.declared.transaction.Transaction.the-variants.{WriteBack}
 use Rattle.protocol.specs.States.{valid, owned}
 use Rattle.rules.specs.declared.call.Call.{Call}
-use Rattle.rules.specs.declared.call.Call.the-variants.{Read, Write, Flush, Settle}
+use Rattle.rules.specs.declared.call.Call.the-variants.{Read, Flush, Settle}
 use Rattle.rules.specs.declared.record.Record.{Record}
 use Rattle.rules.specs.Columns.{none, one}
 use Rattle.rules.specs.Caches.{room, victim}

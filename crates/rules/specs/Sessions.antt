@@ -4,30 +4,28 @@
 -- split     seats below a number follow the first protocol, the others the second
 -- Seen      what is seen of a call: its answer, the line's state in each seat, each transaction with its seat
 -- Sessions  the nine sessions; lines of four words, memory at first all zero
-use Prim.Native.Nat.{ℕ, _+_, _/_}
+use Prim.Native.Nat.{ℕ, _+_}
 use mathlib.Core.Path.{_≡_}
-use mathlib.Core.Bool.{Bool, true, false, cond}
+use mathlib.Core.Bool.{true, false, cond}
 use mathlib.Core.List.{List, [], _∷_, _++_, map}
 use lib.Dec.{ltb}
 use lib.Chars.{codes}
 use lib.ListN.{getD, replicate}
-use Rattle.std.specs.declared.option.Option.{Option}
 use Rattle.std.specs.declared.option.Option.the-variants.{Some, None}
 use Rattle.refusal.specs.Refusals.{plain}
 use Rattle.protocol.specs.declared.transaction.Transaction.the-variants.{ReadShared, ThroughInvalidate, WriteBack}
 use Rattle.protocol.specs.declared.published.Published.{Published}
-use Rattle.protocol.specs.declared.published.Published.the-variants.{WriteThrough, Msi, WriteOnce, Illinois, Berkeley, Dragon, Firefly}
+use Rattle.protocol.specs.declared.published.Published.the-variants.{WriteThrough, WriteOnce, Illinois, Berkeley, Dragon, Firefly}
 use Rattle.protocol.specs.Published.{publishedCells}
 use Rattle.protocol.specs.States.{letter}
 use Rattle.protocol.specs.Transactions.{mnemonic}
 use Rattle.rules.specs.declared.call.Call.{Call}
 use Rattle.rules.specs.declared.call.Call.the-variants.{Read, Write, Flush, Settle}
 use Rattle.rules.specs.declared.record.Record.{Record}
-use Rattle.rules.specs.declared.record.Supplier.the-variants.{Nobody, Memory, Seat}
-use Rattle.rules.specs.Columns.{Copy}
+use Rattle.rules.specs.declared.record.Supplier.the-variants.{Nobody, Seat}
 use Rattle.rules.specs.Transactions.{Protocol}
 use Rattle.rules.specs.Machines.{copiesOf}
-use Rattle.rules.specs.Systems.{System, Outcome, Closing, opened, outcome, after, closed, due, dueIn}
+use Rattle.rules.specs.Systems.{System, Outcome, opened, outcome, after, closed, due, dueIn}
 
 -- every seat answers from one table
 abbrev pub table : List ℕ → Protocol
