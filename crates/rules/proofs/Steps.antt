@@ -67,21 +67,20 @@ reflected-balance false t k held h = h
 
 -- a transaction of seat r on line n, after which its newest words are these
 module _ (z : Sizes) (truth : List (List ℕ)) (m : Machine) (ok : Good z truth m)
-  (n : ℕ) (there : n < z .lines) (r : ℕ) (on : r < z .seats) (f : Column → Column) (holding : Bool) (line : List ℕ)
-  (moved : Moved (column m n) (f (column m n)) r holding line)
-  (space : holding ≡ true → room (getD (m .caches) r []) n ≡ true) (wide : length line ≡ z .width) where
-
+    (n : ℕ) (there : n < z .lines) (r : ℕ) (on : r < z .seats) (f : Column → Column) (holding : Bool) (line : List ℕ)
+    (moved : Moved (column m n) (f (column m n)) r holding line)
+    (space : holding ≡ true → room (getD (m .caches) r []) n ≡ true) (wide : length line ≡ z .width) where
   pub transact-good : (t : Transaction) → one (valid (stateIn r n m)) + fillsBy t ≡ one holding → Good z (set truth n line) (transact t r n f m)
   unfolding transact
-  transact-good t fills = record
-    { sound = install-sound z truth (m .caches) (m .memory) (ok .sound) n there r on (f (column m n)) holding line moved space wide
-    ; balanced =
+  transact-good t fills = record {
+    sound = install-sound z truth (m .caches) (m .memory) (ok .sound) n there r on (f (column m n)) holding line moved space wide;
+    balanced =
         let e = recordOf t r n (column m n) (f (column m n)) in
         let k = lost r (copiesOf n (m .caches)) (f (column m n) .copies) in
         reflected-balance (e .reflected) (counted t (m .tally)) k (copiesHeld (putEach n (m .caches) (f (column m n) .copies)))
         (counted-balance t (m .tally) k (copiesHeld (m .caches)) (copiesHeld (putEach n (m .caches) (f (column m n) .copies))) (ok .balanced)
-        (omega (arith, install-count z truth (m .caches) (m .memory) (ok .sound) n there r on (f (column m n)) holding line moved space)))
-    }
+        (omega (arith, install-count z truth (m .caches) (m .memory) (ok .sound) n there r on (f (column m n)) holding line moved space)));
+  }
 
   pub transact-line : (t : Transaction) → column (transact t r n f m) n ≡ record { copies = map tidy (f (column m n) .copies); home = f (column m n) .home }
   unfolding transact
@@ -114,8 +113,7 @@ held-room m r n e = look-room (getD (m .caches) r []) n (ap (λ (x : Copy). vali
 
 -- a write back by an owner
 module _ (z : Sizes) (truth : List (List ℕ)) (m : Machine) (ok : Good z truth m)
-  (n : ℕ) (there : n < z .lines) (r : ℕ) (on : r < z .seats) (owns : owned (stateIn r n m) ≡ true) where
-
+    (n : ℕ) (there : n < z .lines) (r : ℕ) (on : r < z .seats) (owns : owned (stateIn r n m) ≡ true) where
   back-moved : Moved (column m n) (writeBack r (column m n)) r (holds r n m) (getD truth n [])
   back-moved = writeBack-moved (column m n) (getD truth n []) (ok .sound .each n there) r (on-column ok n r on) owns
 
@@ -161,20 +159,20 @@ module _ (z : Sizes) (truth : List (List ℕ)) (n : ℕ) (there : n < z .lines) 
     drop-moved saved = dropped-moved (column m n) (getD truth n []) (ok .sound .each n there) r (on-column ok n r on) saved
 
     drop-good : (owned (stateIn r n m) ≡ true → column m n .home ≡ getD truth n []) → LetGo z truth r n m (change n (dropped r) m)
-    drop-good saved = record
-      { sound = subst (λ (t : List (List ℕ)). Sound z t (change n (dropped r) m .caches) (change n (dropped r) m .memory)) (set-getD truth n [])
-          (change-sound z truth m ok n there r on (dropped r) false (getD truth n []) (drop-moved saved) (λ e. absurd (both-ways false refl e)) (ok .sound .widths n there))
-      ; caches = drop-caches m r n
-      ; short = λ e. subst (λ (t : Tally). Balanced t (copiesHeld (change n (dropped r) m .caches) + 1)) (sym (drop-tally m r n))
-          (omega
-            ( arith
-            , ok .balanced
-            , change-held z truth m ok n there r on (dropped r) false (getD truth n []) (drop-moved saved) (λ e. absurd (both-ways false refl e)) (ok .sound .widths n there)
-            , ap holders (drop-copies (column m n) r)
-            , holders-set (copiesOf n (m .caches)) r none (on-column ok n r on)
-            , ap one e
-            ))
-      }
+    drop-good saved = record {
+      sound = subst (λ (t : List (List ℕ)). Sound z t (change n (dropped r) m .caches) (change n (dropped r) m .memory)) (set-getD truth n [])
+          (change-sound z truth m ok n there r on (dropped r) false (getD truth n []) (drop-moved saved) (λ e. absurd (both-ways false refl e)) (ok .sound .widths n there));
+      caches = drop-caches m r n;
+      short = λ e. subst (λ (t : Tally). Balanced t (copiesHeld (change n (dropped r) m .caches) + 1)) (sym (drop-tally m r n))
+          (omega (
+            arith,
+            ok .balanced,
+            change-held z truth m ok n there r on (dropped r) false (getD truth n []) (drop-moved saved) (λ e. absurd (both-ways false refl e)) (ok .sound .widths n there),
+            ap holders (drop-copies (column m n) r),
+            holders-set (copiesOf n (m .caches)) r none (on-column ok n r on),
+            ap one e,
+          ));
+    }
 
   -- after the write back of an owned copy
   let-go-if : (m : Machine) → Good z truth m → (b : Bool) → owned (stateIn r n m) ≡ b → LetGo z truth r n m (change n (dropped r) (writtenBackIf b r n m))
@@ -183,11 +181,11 @@ module _ (z : Sizes) (truth : List (List ℕ)) (n : ℕ) (there : n < z .lines) 
       let back = transact WriteBack r n (writeBack r) m in
       let same = back-caches z truth m ok n there r on e in
       let d = drop-good back (back-good z truth m ok n there r on e) (λ _. back-saved z truth m ok n there r on e) in
-      record
-        { sound = d .sound
-        ; caches = d .caches ∙ ap (λ (cs : List Cache). set cs r (put n (getD cs r []) none)) same
-        ; short = λ h. d .short (ap (λ (cs : List Cache). valid (stateAt (copiesOf n cs) r)) same ∙ h)
-        }
+      record {
+        sound = d .sound;
+        caches = d .caches ∙ ap (λ (cs : List Cache). set cs r (put n (getD cs r []) none)) same;
+        short = λ h. d .short (ap (λ (cs : List Cache). valid (stateAt (copiesOf n cs) r)) same ∙ h);
+      }
 
   pub letGo-good : (m : Machine) → Good z truth m → LetGo z truth r n m (letGo r n m)
   unfolding letGo
@@ -203,7 +201,7 @@ module _ (z : Sizes) (truth : List (List ℕ)) (n : ℕ) (there : n < z .lines) 
   flushed-good m ok = flushed-if m ok (holds r n m) refl
 
   flushed-caches-if : (m : Machine) → Good z truth m → (b : Bool) → holds r n m ≡ b
-    → flushedIf b r n m .caches ≡ cond b (set (m .caches) r (put n (getD (m .caches) r []) none)) (m .caches)
+      → flushedIf b r n m .caches ≡ cond b (set (m .caches) r (put n (getD (m .caches) r []) none)) (m .caches)
   flushed-caches-if m ok false e = refl
   flushed-caches-if m ok true e = letGo-good m ok .caches
 
@@ -236,13 +234,13 @@ module _ (z : Sizes) (truth : List (List ℕ)) (n : ℕ) (r : ℕ) (on : r < z .
       let v = victim c n in
       let d = letGo-good z truth v (victim-line (z .lines) (z .sets) c w n e) r on m ok in
       let held = ap (λ (x : Copy). valid (x .state)) (column-at v (m .caches) r) ∙ victim-held (z .lines) (z .sets) c w n e in
-      record
-        { good = record { sound = d .sound; balanced = omega (arith, d .short held) }
-        ; free = subst (λ (b : Cache). room b n ≡ true)
+      record {
+        good = record { sound = d .sound; balanced = omega (arith, d .short held) };
+        free = subst (λ (b : Cache). room b n ≡ true)
             (sym (ap (λ (cs : List Cache). getD cs r []) (d .caches) ∙ getD-set-same (m .caches) r (put v c none) [] (subst (λ (k : ℕ). r < k) (sym (ok .sound .seated)) on)))
-            (victim-room (z .lines) (z .sets) c w n e)
-        ; same = ap (copiesOf n) (d .caches) ∙ other-goes (z .lines) (z .sets) (m .caches) r v n (ok .sound .order) (victim-other (z .lines) (z .sets) c w n e)
-        }
+            (victim-room (z .lines) (z .sets) c w n e);
+        same = ap (copiesOf n) (d .caches) ∙ other-goes (z .lines) (z .sets) (m .caches) r v n (ok .sound .order) (victim-other (z .lines) (z .sets) c w n e);
+      }
 
   pub emptied-good : Emptied z truth r n m (emptied r n m)
   unfolding emptied
