@@ -25,7 +25,7 @@ use Rattle.caches.specs.Lines.{blank, copyOf, slotOf, Wide, Homed}
 use Rattle.caches.specs.Views.{rowView, tableView, cachesOf}
 
 -- a way of a set, with line n and its copy
-abbrev slot : ℕ → Copy → Slot
+abbrev pub slot : ℕ → Copy → Slot
 slot n x = record { tag = n; copy = x }
 
 -- what putting a copy into one way gives: the line stands there or not, the way is full or not, the copy is valid or not
