@@ -2,3 +2,5 @@ pub mod Masks
 pub mod Places
 pub mod Finds
 pub mod Moves
+pub mod Sweeps
+pub mod Hears
