@@ -4,3 +4,4 @@ pub mod Finds
 pub mod Moves
 pub mod Sweeps
 pub mod Hears
+pub mod Searches
