@@ -146,19 +146,19 @@ module _ (cell : ℕ → ℕ → ℕ) (h : Heard) (r n : ℕ) (s : Caches) where
       let m : length (copiesOf n then) ≡ length then = length-map then (λ (c : Cache). look c n) in
       ext-getD none (copiesOf n then) after (omega arith)
       (λ k l.
-        let lk : k < s .seats = omega arith in
-        let lr : r < length was = omega arith in
-        column-at n then k ∙ ap (λ (c : Cache). look c n) (then-at k)
-        ∙ ⊎-elim
-          (λ (same : k ≡ r).
-            subst (λ (j : ℕ). look (put n (getD was j []) (getD after j none)) n ≡ getD after j none) (sym same)
-            (ap (λ (x : Copy). look (put n (getD was r []) x) n) (heard-own lr) ∙ ap (λ (c : Cache). look c n) (put-look (getD was r []) n) ∙ sym (heard-own lr)))
-          (λ (other : k ≡ r → ⊥).
-            let x = look (getD was k []) n in
-            ap (λ (y : Copy). look (put n (getD was k []) y) n) (heard-at k other)
-            ∙ look-put s k lk n (stateHeard h (cell k) (x .state)) (wordsHeard h (x .words)) (λ v. look-room (getD was k []) n (left-valid h (cell k) (x .state) v))
-            ∙ sym (heard-at k other))
-          (cases-eq k r))
+      let lk : k < s .seats = omega arith in
+      let lr : r < length was = omega arith in
+      column-at n then k ∙ ap (λ (c : Cache). look c n) (then-at k)
+      ∙ ⊎-elim
+      (λ (same : k ≡ r).
+      subst (λ (j : ℕ). look (put n (getD was j []) (getD after j none)) n ≡ getD after j none) (sym same)
+      (ap (λ (x : Copy). look (put n (getD was r []) x) n) (heard-own lr) ∙ ap (λ (c : Cache). look c n) (put-look (getD was r []) n) ∙ sym (heard-own lr)))
+      (λ (other : k ≡ r → ⊥).
+      let x = look (getD was k []) n in
+      ap (λ (y : Copy). look (put n (getD was k []) y) n) (heard-at k other)
+      ∙ look-put s k lk n (stateHeard h (cell k) (x .state)) (wordsHeard h (x .words)) (λ v. look-room (getD was k []) n (left-valid h (cell k) (x .state) v))
+      ∙ sym (heard-at k other))
+      (cases-eq k r))
 
   -- the first k seats have reacted
   pub record Going (t : Caches) (k : ℕ) (a : Heeded) : Type 0 where
@@ -179,7 +179,7 @@ module _ (cell : ℕ → ℕ → ℕ) (h : Heard) (r n : ℕ) (s : Caches) where
 
   -- one seat further
   swept : (k : ℕ) (a b : Heeded) → k < length was → b ≡ noted k (getD (set before r none) k none) (getD (set after r none) k none .state) a →
-    sweep k a (drop k (set before r none)) (drop k (set after r none)) ≡ sweep (k + 1) b (drop (k + 1) (set before r none)) (drop (k + 1) (set after r none))
+      sweep k a (drop k (set before r none)) (drop k (set after r none)) ≡ sweep (k + 1) b (drop (k + 1) (set before r none)) (drop (k + 1) (set after r none))
   swept k a b l e =
       let us = set before r none in
       let vs = set after r none in
@@ -193,9 +193,9 @@ module _ (cell : ℕ → ℕ → ℕ) (h : Heard) (r n : ℕ) (s : Caches) where
       ∙ ap (λ (j : ℕ). sweep j b (drop (k + 1) us) (drop (k + 1) vs)) (sym (add-one k))
 
   pub one-more : (t u : Caches) (k : ℕ) (a b : Heeded) → Going t k a → k < s .seats → k ≢ r →
-    cachesOf u ≡ set (cachesOf t) k (put n (getD (cachesOf t) k []) (reaction (cell k) h (look (getD (cachesOf t) k []) n))) →
-    b ≡ noted k (look (getD (cachesOf t) k []) n) (reaction (cell k) h (look (getD (cachesOf t) k []) n) .state) a →
-    u .seats ≡ t .seats → u .sets ≡ t .sets → Going u (k + 1) b
+      cachesOf u ≡ set (cachesOf t) k (put n (getD (cachesOf t) k []) (reaction (cell k) h (look (getD (cachesOf t) k []) n))) →
+      b ≡ noted k (look (getD (cachesOf t) k []) n) (reaction (cell k) h (look (getD (cachesOf t) k []) n) .state) a →
+      u .seats ≡ t .seats → u .sets ≡ t .sets → Going u (k + 1) b
   one-more t u k a b go l ne put-is note-is seats-is sets-is =
       let size : length was ≡ s .seats = caches-long s in
       let lk : k < length was = omega arith in
@@ -216,8 +216,8 @@ module _ (cell : ℕ → ℕ → ℕ) (h : Heard) (r n : ℕ) (s : Caches) where
             ∙ front-set then was long k lk [] (put n (getD was k []) (reaction (cell k) h x)) (then-other k ne);
         answer = go .answer
             ∙ swept k a b lk
-              (note ∙ ap (λ (y : Copy). noted k y (reaction (cell k) h x .state) a) ours
-                ∙ ap (λ (y : Copy). noted k (getD (set before r none) k none) (y .state) a) theirs);
+            (note ∙ ap (λ (y : Copy). noted k y (reaction (cell k) h x .state) a) ours
+            ∙ ap (λ (y : Copy). noted k (getD (set before r none) k none) (y .state) a) theirs);
         few = subst (λ (c : Heeded). c .lost ≤ k + 1) (sym note) (noted-few k x (reaction (cell k) h x .state) a k (go .few));
       }
 
@@ -232,13 +232,13 @@ module _ (cell : ℕ → ℕ → ℕ) (h : Heard) (r n : ℕ) (s : Caches) where
         sets = go .sets;
         caches = go .caches
             ∙ front-stay then was long-then k lk []
-              (subst (λ (j : ℕ). getD was j [] ≡ getD then j []) (sym same) (then-own (subst (λ (j : ℕ). j < length was) same lk)));
+            (subst (λ (j : ℕ). getD was j [] ≡ getD then j []) (sym same) (then-own (subst (λ (j : ℕ). j < length was) same lk)));
         answer = go .answer
             ∙ swept k a a lk
-              (sym
-                (ap (λ (x : Copy). noted k x (getD (set after r none) k none .state) a) (subst (λ (j : ℕ). getD (set before r none) j none ≡ none) (sym same) (own-none before r))
-                  ∙ ap (λ (x : Copy). noted k none (x .state) a) (subst (λ (j : ℕ). getD (set after r none) j none ≡ none) (sym same) (own-none after r))
-                  ∙ noted-none k a));
+            (sym
+            (ap (λ (x : Copy). noted k x (getD (set after r none) k none .state) a) (subst (λ (j : ℕ). getD (set before r none) j none ≡ none) (sym same) (own-none before r))
+            ∙ ap (λ (x : Copy). noted k none (x .state) a) (subst (λ (j : ℕ). getD (set after r none) j none ≡ none) (sym same) (own-none after r))
+            ∙ noted-none k a));
         few = omega arith;
       }
 
@@ -269,17 +269,17 @@ still s k n c h a on v =
     let d = getD (cachesOf s) k [] in
     let absent : look d n ≡ none =
     ⊎-elim
-      (λ (e : standsIn n (placeIn s k n) ≡ true).
-        absurd (both-ways (valid (look d n .state)) v (ap (λ (x : Copy). valid (x .state)) (look-stands s k on n e) ∙ stands-valid n (placeIn s k n) e)))
-      (λ (e : standsIn n (placeIn s k n) ≡ false). look-absent s k on n e)
-      (cases-bool (standsIn n (placeIn s k n)))
+    (λ (e : standsIn n (placeIn s k n) ≡ true).
+    absurd (both-ways (valid (look d n .state)) v (ap (λ (x : Copy). valid (x .state)) (look-stands s k on n e) ∙ stands-valid n (placeIn s k n) e)))
+    (λ (e : standsIn n (placeIn s k n) ≡ false). look-absent s k on n e)
+    (cases-bool (standsIn n (placeIn s k n)))
     in
     let quiet : reaction c h (look d n) ≡ none = ap (reaction c h) absent ∙ none-reacts c h in
     record {
       caches = sym
-        (ap (λ (x : Copy). set (cachesOf s) k (put n d x)) (quiet ∙ sym absent)
+          (ap (λ (x : Copy). set (cachesOf s) k (put n d x)) (quiet ∙ sym absent)
           ∙ ap (set (cachesOf s) k) (put-look d n) ∙ set-getD (cachesOf s) k []);
       noted = sym
-        (ap (λ (x : Copy). noted k (look d n) (x .state) a) quiet
+          (ap (λ (x : Copy). noted k (look d n) (x .state) a) quiet
           ∙ ap (λ (x : Copy). noted k x Invalid a) absent ∙ noted-none k a);
     }

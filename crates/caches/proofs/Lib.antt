@@ -5,3 +5,4 @@ pub mod Moves
 pub mod Sweeps
 pub mod Hears
 pub mod Searches
+pub mod Openings

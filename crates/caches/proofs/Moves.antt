@@ -67,14 +67,14 @@ module _ (s : Caches) (k : ℕ) (on : k < s .seats) (n i : ℕ) (here : i ≡ n 
   own-home q e = ap (λ (m : ℕ). m % s .sets) e ∙ sym here
 
   putting : (q : CacheLine) (t : State) (w : List ℕ) → slotOf q ∷ [] ≡ putIn n (kept t w) (slotOf (getD (getD (s .table) k []) i blank) ∷ []) →
-    (valid t ≡ true → room (getD (cachesOf s) k []) n ≡ true) → Put s k n (kept t w) (tableView (s .seats) (s .sets) (withPlace s k i q))
+      (valid t ≡ true → room (getD (cachesOf s) k []) n ≡ true) → Put s k n (kept t w) (tableView (s .seats) (s .sets) (withPlace s k i q))
   putting q t w e fit =
       let p = put-caches s k on n i here q (kept t w) e in
       record { caches = p; copies = ap (copiesOf n) p ∙ put-copies s k on n t w fit }
 
   -- a line is placed where there is room
   pub placed : (t : State) (w : List ℕ) → valid t ≡ true → room (getD (cachesOf s) k []) n ≡ true →
-    Put s k n (kept t w) (tableView (s .seats) (s .sets) (withPlace s k i (record { state = t; tag = n; words = w })))
+      Put s k n (kept t w) (tableView (s .seats) (s .sets) (withPlace s k i (record { state = t; tag = n; words = w })))
   placed t w v free =
       putting (record { state = t; tag = n; words = w }) t w
       (sym (put-room n (getD (getD (s .table) k []) i blank) (kept t w) (sym (room-ways s k on n i here) ∙ free) v))
@@ -90,31 +90,31 @@ module _ (s : Caches) (k : ℕ) (on : k < s .seats) (n i : ℕ) (here : i ≡ n 
 
   -- a held copy takes a state and a word
   pub rewritten : (q : CacheLine) (t : State) (o v : ℕ) → valid (stateAt (copiesOf n (cachesOf s)) k) ≡ true →
-    q .tag ≡ getD (getD (s .table) k []) i blank .tag → q .state ≡ t → q .words ≡ set (getD (getD (s .table) k []) i blank .words) o v →
-    Put s k n (kept t (set (wordsAt (copiesOf n (cachesOf s)) k) o v)) (tableView (s .seats) (s .sets) (withPlace s k i q))
+      q .tag ≡ getD (getD (s .table) k []) i blank .tag → q .state ≡ t → q .words ≡ set (getD (getD (s .table) k []) i blank .words) o v →
+      Put s k n (kept t (set (wordsAt (copiesOf n (cachesOf s)) k) o v)) (tableView (s .seats) (s .sets) (withPlace s k i q))
   rewritten q t o v held tag state words =
       let w = set (wordsAt (copiesOf n (cachesOf s)) k) o v in
       putting q t w
       (ap (λ (a : Slot). a ∷ [])
-        (slot-is q n t w (tag ∙ held-tag held) state
-          (words ∙ ap (λ (u : List ℕ). set u o v) (held-words s k on n i here held)))
-        ∙ sym (put-stands n (getD (getD (s .table) k []) i blank) (kept t w) (held-stands s k on n i here held)))
+      (slot-is q n t w (tag ∙ held-tag held) state
+      (words ∙ ap (λ (u : List ℕ). set u o v) (held-words s k on n i here held)))
+      ∙ sym (put-stands n (getD (getD (s .table) k []) i blank) (kept t w) (held-stands s k on n i here held)))
       (λ _. held-room held)
 
   -- the place's copy goes
   pub let-go : getD (getD (s .table) k []) i blank .tag ≡ n →
-    Put s k n none (tableView (s .seats) (s .sets) (withPlace s k i (record { state = Invalid; tag = getD (getD (s .table) k []) i blank .tag; words = getD (getD (s .table) k []) i blank .words })))
+      Put s k n none (tableView (s .seats) (s .sets) (withPlace s k i (record { state = Invalid; tag = getD (getD (s .table) k []) i blank .tag; words = getD (getD (s .table) k []) i blank .words })))
   let-go tag =
       let p = getD (getD (s .table) k []) i blank in
       let q : CacheLine = record { state = Invalid; tag = p .tag; words = p .words } in
       putting q Invalid []
       (⊎-elim
-        (λ (v : valid (p .state) ≡ true).
-          ap (λ (m : ℕ). slot m none ∷ []) tag ∙ sym (put-stands n p none (and-from (eqb (p .tag) n) (valid (p .state)) (eq-eqb (p .tag) n tag) v)))
-        (λ (v : valid (p .state) ≡ false).
-          ap (λ (t : State). slot (p .tag) (kept t (p .words)) ∷ []) (sym (not-valid (p .state) v))
-          ∙ sym (put-absent n p none (and-right (eqb (p .tag) n) (valid (p .state)) v) refl))
-        (cases-bool (valid (p .state))))
+      (λ (v : valid (p .state) ≡ true).
+      ap (λ (m : ℕ). slot m none ∷ []) tag ∙ sym (put-stands n p none (and-from (eqb (p .tag) n) (valid (p .state)) (eq-eqb (p .tag) n tag) v)))
+      (λ (v : valid (p .state) ≡ false).
+      ap (λ (t : State). slot (p .tag) (kept t (p .words)) ∷ []) (sym (not-valid (p .state) v))
+      ∙ sym (put-absent n p none (and-right (eqb (p .tag) n) (valid (p .state)) v) refl))
+      (cases-bool (valid (p .state))))
       (λ e. absurd (false≢true e))
 
   -- no copy stands there, and nothing changes
@@ -136,7 +136,7 @@ module _ (s : Caches) (k : ℕ) (on : k < s .seats) (n i : ℕ) (here : i ≡ n 
 
   -- where a copy went there is room for any line of its set
   freed : (cs : List Cache) → cs ≡ set (cachesOf s) k (put n (getD (cachesOf s) k []) none) → valid (stateAt (copiesOf n (cachesOf s)) k) ≡ true →
-    (m : ℕ) → m % s .sets ≡ n % s .sets → room (getD cs k []) m ≡ true
+      (m : ℕ) → m % s .sets ≡ n % s .sets → room (getD cs k []) m ≡ true
   unfolding room put
   freed cs e held m same =
       let c = getD (cachesOf s) k [] in
@@ -157,18 +157,18 @@ module _ (s : Caches) (k : ℕ) (on : k < s .seats) (n i : ℕ) (here : i ≡ n 
       ∙ or-right (has m (slot n none ∷ [])) true refl
 
   pub room-freed : (cs : List Cache) → Put s k n none cs → valid (stateAt (copiesOf n (cachesOf s)) k) ≡ true →
-    (m : ℕ) → m % s .sets ≡ n % s .sets → room (getD cs k []) m ≡ true
+      (m : ℕ) → m % s .sets ≡ n % s .sets → room (getD cs k []) m ≡ true
   room-freed cs p = freed cs (p .caches ∙ putEach-one n k (cachesOf s) none)
 
   -- a held copy has reacted
   pub heeding : (q : CacheLine) (c : ℕ → ℕ) (h : Heard) → standsIn n (getD (getD (s .table) k []) i blank) ≡ true →
-    q .tag ≡ getD (getD (s .table) k []) i blank .tag → copyOf q ≡ reaction c h (copyOf (getD (getD (s .table) k []) i blank)) →
-    tableView (s .seats) (s .sets) (withPlace s k i q) ≡ set (cachesOf s) k (put n (getD (cachesOf s) k []) (reaction c h (look (getD (cachesOf s) k []) n)))
+      q .tag ≡ getD (getD (s .table) k []) i blank .tag → copyOf q ≡ reaction c h (copyOf (getD (getD (s .table) k []) i blank)) →
+      tableView (s .seats) (s .sets) (withPlace s k i q) ≡ set (cachesOf s) k (put n (getD (cachesOf s) k []) (reaction c h (look (getD (cachesOf s) k []) n)))
   heeding q c h stands tag e =
       let p = getD (getD (s .table) k []) i blank in
       let x = reaction c h (look (getD (cachesOf s) k []) n) in
       let named : p .tag ≡ n = eqb-true (p .tag) n (and-parts (eqb (p .tag) n) (valid (p .state)) stands .0) in
       changed s k on n i here q x
       (ap (λ (m : ℕ). slot m (copyOf q) ∷ []) (tag ∙ named)
-        ∙ ap (λ (y : Copy). slot n y ∷ []) (e ∙ ap (reaction c h) (sym (held-look s k on n i here stands)))
-        ∙ sym (put-stands n p x stands))
+      ∙ ap (λ (y : Copy). slot n y ∷ []) (e ∙ ap (reaction c h) (sym (held-look s k on n i here stands)))
+      ∙ sym (put-stands n p x stands))

@@ -53,14 +53,14 @@ sweep-owner k a (x ∷ xs) (y ∷ ys) e =
     sweep-owner (suc k) (noted k x (y .state) a) xs ys (omega arith) ∙ owner-step (owned (x .state)) (a .owner) (ownerFrom (suc k) xs) k
 
 words-step : (t : Bool) (o : Option ℕ) (k : ℕ) (w v p : List ℕ) →
-  cond (isSome (cond (t && not (isSome o)) (Some k) o)) (cond (t && not (isSome o)) w v) p ≡ cond (isSome o) v (cond t w p)
+    cond (isSome (cond (t && not (isSome o)) (Some k) o)) (cond (t && not (isSome o)) w v) p ≡ cond (isSome o) v (cond t w p)
 words-step true None k w v p = refl
 words-step true (Some j) k w v p = refl
 words-step false None k w v p = refl
 words-step false (Some j) k w v p = refl
 
 sweep-words : (k : ℕ) (a : Heeded) (xs ys : List Copy) (home : List ℕ) → length xs ≡ length ys →
-  cond (isSome (sweep k a xs ys .owner)) (sweep k a xs ys .words) home ≡ cond (isSome (a .owner)) (a .words) (supplied xs home)
+    cond (isSome (sweep k a xs ys .owner)) (sweep k a xs ys .words) home ≡ cond (isSome (a .owner)) (a .words) (supplied xs home)
 sweep-words k a [] ys home e = refl
 sweep-words k a (x ∷ xs) [] home e = absurd (omega arith)
 sweep-words k a (x ∷ xs) (y ∷ ys) home e =
@@ -74,7 +74,7 @@ firstLeaves d (x ∷ xs) [] = d
 firstLeaves d (x ∷ xs) (y ∷ ys) = cond (owned (x .state)) (not (isO (y .state))) (firstLeaves d xs ys)
 
 reflected-step : (t : Bool) (o : Option ℕ) (k : ℕ) (u d : Bool) (F : Bool → Bool) →
-  cond (isSome (cond (t && not (isSome o)) (Some k) o)) (cond (t && not (isSome o)) u d) (F (cond (t && not (isSome o)) u d)) ≡ cond (isSome o) d (cond t u (F d))
+    cond (isSome (cond (t && not (isSome o)) (Some k) o)) (cond (t && not (isSome o)) u d) (F (cond (t && not (isSome o)) u d)) ≡ cond (isSome o) d (cond t u (F d))
 reflected-step true None k u d F = refl
 reflected-step true (Some j) k u d F = refl
 reflected-step false None k u d F = refl
@@ -85,7 +85,7 @@ either-same true c = refl
 either-same false c = refl
 
 sweep-reflected : (k : ℕ) (a : Heeded) (xs ys : List Copy) → length xs ≡ length ys →
-  sweep k a xs ys .reflected ≡ cond (isSome (a .owner)) (a .reflected) (firstLeaves (a .reflected) xs ys)
+    sweep k a xs ys .reflected ≡ cond (isSome (a .owner)) (a .reflected) (firstLeaves (a .reflected) xs ys)
 sweep-reflected k a [] ys e = either-same (isSome (a .owner)) (a .reflected)
 sweep-reflected k a (x ∷ xs) [] e = absurd (omega arith)
 sweep-reflected k a (x ∷ xs) (y ∷ ys) e =
@@ -98,12 +98,12 @@ first-leaves before [] ys e = refl
 first-leaves before (x ∷ xs) [] e = absurd (omega arith)
 first-leaves before (x ∷ xs) (y ∷ ys) e =
     elim (owned (x .state)) as
-      (λ b. cond b (not (isO (y .state))) (firstLeaves false xs ys) ≡ leavesO (cond b (Some (length before)) (ownerFrom (suc (length before)) xs)) (before ++ (y ∷ ys))) [
+    (λ b. cond b (not (isO (y .state))) (firstLeaves false xs ys) ≡ leavesO (cond b (Some (length before)) (ownerFrom (suc (length before)) xs)) (before ++ (y ∷ ys))) [
       | true ↦ ap (λ (z : Copy). not (isO (z .state))) (sym (getD-at before y ys none (length before) refl))
       | false ↦
-        first-leaves (before ++ y ∷ []) xs ys (omega arith)
-        ∙ ap (λ (m : ℕ). leavesO (ownerFrom m xs) ((before ++ y ∷ []) ++ ys)) (length-push before y ∙ add-one (length before))
-        ∙ ap (leavesO (ownerFrom (suc (length before)) xs)) (append-assoc before (y ∷ []) ys)
+          first-leaves (before ++ y ∷ []) xs ys (omega arith)
+          ∙ ap (λ (m : ℕ). leavesO (ownerFrom m xs) ((before ++ y ∷ []) ++ ys)) (length-push before y ∙ add-one (length before))
+          ∙ ap (leavesO (ownerFrom (suc (length before)) xs)) (append-assoc before (y ∷ []) ys)
     ]
 
 -- the requester's own copy is left out
@@ -119,7 +119,7 @@ leaves-same xs ys r (Some j) e =
     let at : j ≡ f .0 = f .1 .0 ∙ zero-add (f .0) in
     let other : j ≢ r =
     λ same. both-ways (owned (stateAt (set xs r none) (f .0)))
-      (ap (λ (i : ℕ). owned (stateAt (set xs r none) i)) (sym at ∙ same) ∙ ap (λ (x : Copy). owned (x .state)) (own-none xs r)) (f .1 .2)
+    (ap (λ (i : ℕ). owned (stateAt (set xs r none) i)) (sym at ∙ same) ∙ ap (λ (x : Copy). owned (x .state)) (own-none xs r)) (f .1 .2)
     in
     ap (λ (x : Copy). not (isO (x .state))) (getD-set-other ys r j none none other)
 

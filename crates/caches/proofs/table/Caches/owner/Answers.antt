@@ -19,8 +19,8 @@ returns-then-is-owned c =
     let k = c .loop-seat .seat in
     sym
     (c .loop-seat .inv
-      ∙ owner-here s r n k (c .loop-seat-test .taken)
-        (passed s r n k owned (c .if-seat-requester .taken) (c .state .result) (c .state .ensures .value) ∙ sym (c .is-owned .ensures) ∙ c .if-is-owned .taken))
+    ∙ owner-here s r n k (c .loop-seat-test .taken)
+    (passed s r n k owned (c .if-seat-requester .taken) (c .state .result) (c .state .ensures .value) ∙ sym (c .is-owned .ensures) ∙ c .if-is-owned .taken))
 
 pub loop-seat-again : need.loop-seat-again
 loop-seat-again c =
@@ -30,9 +30,9 @@ loop-seat-again c =
     let k = c .loop-seat .seat in
     let not-owned : owned (stateAt (others s r n) k) ≡ false =
     elim (c .else-seat-requester .came) [
-    | else-seat-requester·by·then-seat-requester·else-is-owned w ↦
-      passed s r n k owned (w .if-seat-requester .taken) (w .state .result) (w .state .ensures .value) ∙ sym (w .is-owned .ensures) ∙ w .if-is-owned .left
-    | else-seat-requester·by·else-seat-requester w ↦ skipped s r n k owned refl (w .if-seat-requester .left)
+      | else-seat-requester·by·then-seat-requester·else-is-owned w ↦
+          passed s r n k owned (w .if-seat-requester .taken) (w .state .result) (w .state .ensures .value) ∙ sym (w .is-owned .ensures) ∙ w .if-is-owned .left
+      | else-seat-requester·by·else-seat-requester w ↦ skipped s r n k owned refl (w .if-seat-requester .left)
     ]
     in
     c .loop-seat .inv ∙ owner-next s r n k (c .loop-seat-test .taken) not-owned

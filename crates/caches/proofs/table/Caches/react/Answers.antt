@@ -40,15 +40,15 @@ loop-seat-again g c =
     let k = c .loop-seat .seat in
     let a = c .loop-seat .heeded in
     elim (c .if-seat-requester .came) [
-    | then-seat-requester w ↦
-      subst (λ (u : Caches). Going cell h r n s u (k + 1) (c .if-seat-requester .heeded)) (sym (w .self-is))
-      (subst (λ (b : Heeded). Going cell h r n s (w .turn .last .self) (k + 1) b) (sym (w .heeded-is))
-        (one-more cell h r n s t (w .turn .last .self) k a (w .turn .last .heeded) (c .loop-seat .inv) (c .loop-seat-test .taken) (w .if-seat-requester .taken)
+      | then-seat-requester w ↦
+          subst (λ (u : Caches). Going cell h r n s u (k + 1) (c .if-seat-requester .heeded)) (sym (w .self-is))
+          (subst (λ (b : Heeded). Going cell h r n s (w .turn .last .self) (k + 1) b) (sym (w .heeded-is))
+          (one-more cell h r n s t (w .turn .last .self) k a (w .turn .last .heeded) (c .loop-seat .inv) (c .loop-seat-test .taken) (w .if-seat-requester .taken)
           (w .turn .ensures .caches) (w .turn .ensures .noted) (w .turn .ensures .seats) (w .turn .ensures .sets)))
-    | else-seat-requester w ↦
-      subst (λ (u : Caches). Going cell h r n s u (k + 1) (c .if-seat-requester .heeded)) (sym (w .self-is))
-      (subst (λ (b : Heeded). Going cell h r n s t (k + 1) b) (sym (w .heeded-is))
-        (itself cell h r n s t k a (c .loop-seat .inv) (c .loop-seat-test .taken) (w .if-seat-requester .left)))
+      | else-seat-requester w ↦
+          subst (λ (u : Caches). Going cell h r n s u (k + 1) (c .if-seat-requester .heeded)) (sym (w .self-is))
+          (subst (λ (b : Heeded). Going cell h r n s t (k + 1) b) (sym (w .heeded-is))
+          (itself cell h r n s t k a (c .loop-seat .inv) (c .loop-seat-test .taken) (w .if-seat-requester .left)))
     ]
 
 pub returns : need.returns

@@ -21,8 +21,8 @@ returns-then-is-valid c =
     let k = c .loop-other .other in
     not-alone r (copiesOf n (cachesOf s)) true
     (c .loop-other .inv
-      ∙ some-here s r n k (c .loop-other-test .taken)
-        (passed s r n k valid (c .if-other-seat .taken) (c .state .result) (c .state .ensures .value) ∙ sym (c .is-valid .ensures) ∙ c .if-is-valid .taken))
+    ∙ some-here s r n k (c .loop-other-test .taken)
+    (passed s r n k valid (c .if-other-seat .taken) (c .state .result) (c .state .ensures .value) ∙ sym (c .is-valid .ensures) ∙ c .if-is-valid .taken))
 
 pub loop-other-again : need.loop-other-again
 loop-other-again c =
@@ -32,9 +32,9 @@ loop-other-again c =
     let k = c .loop-other .other in
     let not-held : valid (stateAt (others s r n) k) ≡ false =
     elim (c .else-other-seat .came) [
-    | else-other-seat·by·then-other-seat·else-is-valid w ↦
-      passed s r n k valid (w .if-other-seat .taken) (w .state .result) (w .state .ensures .value) ∙ sym (w .is-valid .ensures) ∙ w .if-is-valid .left
-    | else-other-seat·by·else-other-seat w ↦ skipped s r n k valid refl (w .if-other-seat .left)
+      | else-other-seat·by·then-other-seat·else-is-valid w ↦
+          passed s r n k valid (w .if-other-seat .taken) (w .state .result) (w .state .ensures .value) ∙ sym (w .is-valid .ensures) ∙ w .if-is-valid .left
+      | else-other-seat·by·else-other-seat w ↦ skipped s r n k valid refl (w .if-other-seat .left)
     ]
     in
     c .loop-other .inv ∙ some-next s r n k (c .loop-other-test .taken) not-held
