@@ -7,3 +7,9 @@ pub mod Sets
 pub mod Caches
 pub mod Machines
 pub mod Steps
+pub mod Accesses
+pub mod Settling
+pub mod Calls
+pub mod Promises
+pub mod Counts
+pub mod Laws
