@@ -1,0 +1,29 @@
+use mathlib.Core.Path.{_≡_, _∙_}
+use Prim.Native.Nat.{_<_, _≤_}
+use native.Mathlib.Omega.{arith}
+use borrow.Author.Needs.{needs}
+use lib.ListN.{length, take}
+use Rattle.std.proofs.shelf.Tests.{eqb-false}
+use Rattle.std.proofs.shelf.Lists.{take-more-set, length-set}
+use Rattle.memory.specs.Ages.{waits}
+use Rattle.memory.proofs.Tables.{front-long, wide-set}
+use Rattle.memory.proofs.queue.Queue.push.Needs as need
+
+pub ghost-self : need.ghost-self
+ghost-self c =
+    let q = c .args .self .now in
+    let w = q .within in
+    let p = q .places in
+    let long = front-long (q .table) (q .count) (omega arith) in
+    let room = eqb-false (length (take (q .count) (q .table))) 4 (c .pre) in
+    let new : length (c .args .words) ≡ 4 = search needs in
+    (omega arith, (length-set (q .table) (q .count) (waits (c .args .line) (c .args .words)) ∙ p, (wide-set (q .table) (q .count) (waits (c .args .line) (c .args .words)) p (q .wide) new, tt)))
+
+pub returns : need.returns
+returns c =
+    let q = c .args .self .now in
+    let w = q .within in
+    let p = q .places in
+    let long = front-long (q .table) (q .count) (omega arith) in
+    let room = eqb-false (length (take (q .count) (q .table))) 4 (c .pre) in
+    take-more-set (q .table) (q .count) (waits (c .args .line) (c .args .words)) (omega arith)
