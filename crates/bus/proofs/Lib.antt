@@ -1,0 +1,4 @@
+pub mod Cases
+pub mod Counting
+pub mod Parts
+pub mod Turns
