@@ -7,3 +7,4 @@ pub mod Accesses
 pub mod Systems
 pub mod Ledgers
 pub mod Sessions
+pub mod Coherence
