@@ -2,3 +2,4 @@ pub mod Cases
 pub mod Counting
 pub mod Parts
 pub mod Turns
+pub mod Absent
