@@ -73,10 +73,10 @@ module _ (lines sets : ℕ) (c : Cache) (wf : Wf lines sets c) where
   -- every held line is listed in its set
   pub look-listed : (n : ℕ) → valid (look c n .state) ≡ true → (n % sets < sets) × (among n (linesAt c (n % sets)) ≡ true)
   unfolding look linesAt
-  look-listed n e =
-      ( mod-lt n (wf .some)
-      , among-lines n (getD c (n % sets) []) ∙ subst (λ (k : ℕ). has n (getD c (n % k) []) ≡ true) (wf .sized) (sym (find-held n (setOf c n)) ∙ e)
-      )
+  look-listed n e = (
+    mod-lt n (wf .some),
+    among-lines n (getD c (n % sets) []) ∙ subst (λ (k : ℕ). has n (getD c (n % k) []) ≡ true) (wf .sized) (sym (find-held n (setOf c n)) ∙ e),
+  )
 
   -- a line that is held is listed in no other set
   pub listed-held : (i n : ℕ) → among n (linesAt c i) ≡ true → valid (look c n .state) ≡ true
@@ -121,9 +121,9 @@ module _ (lines sets : ℕ) (c : Cache) (wf : Wf lines sets c) where
     put-each P old new i =
         subst (P i) (sym (put-at i))
         (⊎-elim
-          (λ p. subst (λ (b : Bool). P i (cond b (putIn n x (setOf c n)) (getD c i []))) (sym (eq-eqb i (n % length c) p)) (subst (λ (k : ℕ). P k (putIn n x (setOf c n))) (sym p) new))
-          (λ p. subst (λ (b : Bool). P i (cond b (putIn n x (setOf c n)) (getD c i []))) (sym (ne-eqb i (n % length c) p)) (old i))
-          (cases-eq i (n % length c)))
+        (λ p. subst (λ (b : Bool). P i (cond b (putIn n x (setOf c n)) (getD c i []))) (sym (eq-eqb i (n % length c) p)) (subst (λ (k : ℕ). P k (putIn n x (setOf c n))) (sym p) new))
+        (λ p. subst (λ (b : Bool). P i (cond b (putIn n x (setOf c n)) (getD c i []))) (sym (ne-eqb i (n % length c) p)) (old i))
+        (cases-eq i (n % length c)))
 
     pub look-put-other : (m : ℕ) → m ≢ n → look (put n c x) m ≡ look c m
     unfolding look
@@ -140,17 +140,17 @@ module _ (lines sets : ℕ) (c : Cache) (wf : Wf lines sets c) where
         omega (arith, h, f, e)
 
     pub wf-put : n < lines → Wf lines sets (put n c x)
-    wf-put below = record
-      { sized = length-put c n x ∙ wf .sized
-      ; some = wf .some
-      ; ways = put-each (λ i ss. i < sets → 0 < length ss) (wf .ways)
-          (λ l. subst (λ (k : ℕ). 0 < k) (sym (length-putIn n x (setOf c n))) (wf .ways (n % length c) l))
-      ; once = put-each (λ i ss. (m : ℕ) → times m ss ≤ 1) (wf .once) (times-put n x (setOf c n) (wf .once (n % length c)))
-      ; homes = put-each (λ i ss. (m : ℕ) → has m ss ≡ true → (m < lines) × (m % sets ≡ i)) (wf .homes)
+    wf-put below = record {
+      sized = length-put c n x ∙ wf .sized;
+      some = wf .some;
+      ways = put-each (λ i ss. i < sets → 0 < length ss) (wf .ways)
+          (λ l. subst (λ (k : ℕ). 0 < k) (sym (length-putIn n x (setOf c n))) (wf .ways (n % length c) l));
+      once = put-each (λ i ss. (m : ℕ) → times m ss ≤ 1) (wf .once) (times-put n x (setOf c n) (wf .once (n % length c)));
+      homes = put-each (λ i ss. (m : ℕ) → has m ss ≡ true → (m < lines) × (m % sets ≡ i)) (wf .homes)
           (λ m e. ⊎-elim
-            (λ p. (subst (λ (k : ℕ). k < lines) (sym p) below, ap (λ (k : ℕ). k % sets) p ∙ ap (λ (k : ℕ). n % k) (sym (wf .sized))))
-            (λ h. wf .homes (n % length c) m h) (has-put n x (setOf c n) m e))
-      }
+          (λ p. (subst (λ (k : ℕ). k < lines) (sym p) below, ap (λ (k : ℕ). k % sets) p ∙ ap (λ (k : ℕ). n % k) (sym (wf .sized))))
+          (λ h. wf .homes (n % length c) m h) (has-put n x (setOf c n) m e));
+    }
 
   -- where there is no room for line n
   module _ (n : ℕ) (no : room c n ≡ false) where
@@ -194,13 +194,13 @@ fresh-set sets ways i P p q =
     (cases-lt i sets)
 
 pub fresh-wf : (lines sets ways : ℕ) → 0 < sets → 0 < ways → Wf lines sets (fresh sets ways)
-fresh-wf lines sets ways s w = record
-  { sized = length-replicate sets (replicate ways vacant)
-  ; some = s
-  ; ways = λ i l. subst (λ (ss : List Slot). 0 < length ss) (sym (getD-replicate sets i (replicate ways vacant) [] l)) (subst (λ (k : ℕ). 0 < k) (sym (length-replicate ways vacant)) w)
-  ; once = λ i m. fresh-set sets ways i (λ ss. times m ss ≤ 1) (omega arith) (omega (arith, times-absent m (replicate ways vacant) (empty-set ways m)))
-  ; homes = λ i m e. absurd (both-ways (has m (getD (fresh sets ways) i [])) (fresh-set sets ways i (λ ss. has m ss ≡ false) refl (empty-set ways m)) e)
-  }
+fresh-wf lines sets ways s w = record {
+  sized = length-replicate sets (replicate ways vacant);
+  some = s;
+  ways = λ i l. subst (λ (ss : List Slot). 0 < length ss) (sym (getD-replicate sets i (replicate ways vacant) [] l)) (subst (λ (k : ℕ). 0 < k) (sym (length-replicate ways vacant)) w);
+  once = λ i m. fresh-set sets ways i (λ ss. times m ss ≤ 1) (omega arith) (omega (arith, times-absent m (replicate ways vacant) (empty-set ways m)));
+  homes = λ i m e. absurd (both-ways (has m (getD (fresh sets ways) i [])) (fresh-set sets ways i (λ ss. has m ss ≡ false) refl (empty-set ways m)) e);
+}
 
 pub fresh-look : (sets ways n : ℕ) → look (fresh sets ways) n ≡ none
 unfolding look

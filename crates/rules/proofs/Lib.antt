@@ -6,3 +6,8 @@ pub mod Turns
 pub mod Sets
 pub mod Caches
 pub mod Machines
+pub mod Steps
+pub mod Accesses
+pub mod Settling
+pub mod Calls
+pub mod Promises

@@ -43,37 +43,38 @@ pub record Turned (xs zs : List Copy) (r : ℕ) (h : ℕ → State → State) (w
   pub long : length zs ≡ length xs
 
 pub by-hearing :
-  (xs : List Copy) (r : ℕ) (h : ℕ → State → State) (w : List ℕ → List ℕ) (s : State) (ws : List ℕ)
-  → r < length xs → ((k : ℕ) → h k Invalid ≡ Invalid) → Turned xs (set (hear h w 0 xs) r (kept s ws)) r h w s ws
-by-hearing xs r h w s ws on z = record
-  { other-state = λ i ne. ap (λ (x : Copy). x .state) (at i ne)
-  ; other-words = λ i ne e. ap (λ (x : Copy). x .words) (at i ne) ∙ kept-words (h i (stateAt xs i)) (w (wordsAt xs i)) e
-  ; own-state = ap (λ (x : Copy). x .state) own
-  ; own-words = λ e. ap (λ (x : Copy). x .words) own ∙ kept-words s ws e
-  ; long = length-set (hear h w 0 xs) r (kept s ws) ∙ length-hear h w 0 xs
-  }
+    (xs : List Copy) (r : ℕ) (h : ℕ → State → State) (w : List ℕ → List ℕ) (s : State) (ws : List ℕ)
+    → r < length xs → ((k : ℕ) → h k Invalid ≡ Invalid) → Turned xs (set (hear h w 0 xs) r (kept s ws)) r h w s ws
+by-hearing xs r h w s ws on z = record {
+  other-state = λ i ne. ap (λ (x : Copy). x .state) (at i ne);
+  other-words = λ i ne e. ap (λ (x : Copy). x .words) (at i ne) ∙ kept-words (h i (stateAt xs i)) (w (wordsAt xs i)) e;
+  own-state = ap (λ (x : Copy). x .state) own;
+  own-words = λ e. ap (λ (x : Copy). x .words) own ∙ kept-words s ws e;
+  long = length-set (hear h w 0 xs) r (kept s ws) ∙ length-hear h w 0 xs;
+}
   where
     at : (i : ℕ) → i ≢ r → getD (set (hear h w 0 xs) r (kept s ws)) i none ≡ kept (h i (stateAt xs i)) (w (wordsAt xs i))
     at i ne = getD-set-other (hear h w 0 xs) r i (kept s ws) none ne ∙ hear-at h w z 0 xs i ∙ ap (λ (j : ℕ). kept (h j (stateAt xs i)) (w (wordsAt xs i))) (zero-add i)
+
     own : getD (set (hear h w 0 xs) r (kept s ws)) r none ≡ kept s ws
     own = getD-set-same (hear h w 0 xs) r (kept s ws) none (subst (λ (n : ℕ). r < n) (sym (length-hear h w 0 xs)) on)
 
 pub by-setting : (xs : List Copy) (r : ℕ) (s : State) (ws : List ℕ) → r < length xs → Turned xs (set xs r (kept s ws)) r (λ k t. t) same s ws
-by-setting xs r s ws on = record
-  { other-state = λ i ne. ap (λ (x : Copy). x .state) (getD-set-other xs r i (kept s ws) none ne)
-  ; other-words = λ i ne e. ap (λ (x : Copy). x .words) (getD-set-other xs r i (kept s ws) none ne)
-  ; own-state = ap (λ (x : Copy). x .state) (getD-set-same xs r (kept s ws) none on)
-  ; own-words = λ e. ap (λ (x : Copy). x .words) (getD-set-same xs r (kept s ws) none on) ∙ kept-words s ws e
-  ; long = length-set xs r (kept s ws)
-  }
+by-setting xs r s ws on = record {
+  other-state = λ i ne. ap (λ (x : Copy). x .state) (getD-set-other xs r i (kept s ws) none ne);
+  other-words = λ i ne e. ap (λ (x : Copy). x .words) (getD-set-other xs r i (kept s ws) none ne);
+  own-state = ap (λ (x : Copy). x .state) (getD-set-same xs r (kept s ws) none on);
+  own-words = λ e. ap (λ (x : Copy). x .words) (getD-set-same xs r (kept s ws) none on) ∙ kept-words s ws e;
+  long = length-set xs r (kept s ws);
+}
 
 -- two seats agree after a turn
 apart-turn :
-  {xs zs : List Copy} {r : ℕ} {h : ℕ → State → State} {w : List ℕ → List ℕ} {s : State} {ws : List ℕ} → Turned xs zs r h w s ws
-  → ((i j : ℕ) → i ≢ j → agree (stateAt xs i) (stateAt xs j) ≡ true)
-  → ((k : ℕ) → k ≢ r → below (h k (stateAt xs k)) (stateAt xs k) ≡ true)
-  → ((k : ℕ) → k ≢ r → agree s (h k (stateAt xs k)) ≡ true)
-  → (i j : ℕ) → i ≢ j → (i ≡ r) ⊎ (i ≡ r → ⊥) → (j ≡ r) ⊎ (j ≡ r → ⊥) → agree (stateAt zs i) (stateAt zs j) ≡ true
+    {xs zs : List Copy} {r : ℕ} {h : ℕ → State → State} {w : List ℕ → List ℕ} {s : State} {ws : List ℕ} → Turned xs zs r h w s ws
+    → ((i j : ℕ) → i ≢ j → agree (stateAt xs i) (stateAt xs j) ≡ true)
+    → ((k : ℕ) → k ≢ r → below (h k (stateAt xs k)) (stateAt xs k) ≡ true)
+    → ((k : ℕ) → k ≢ r → agree s (h k (stateAt xs k)) ≡ true)
+    → (i j : ℕ) → i ≢ j → (i ≡ r) ⊎ (i ≡ r → ⊥) → (j ≡ r) ⊎ (j ≡ r → ⊥) → agree (stateAt zs i) (stateAt zs j) ≡ true
 apart-turn {xs} {zs} {r} {h} {w} {s} {ws} t a b m i j ne (inl p) (inl q) = absurd (ne (p ∙ sym q))
 apart-turn {xs} {zs} {r} {h} {w} {s} {ws} t a b m i j ne (inl p) (inr q) =
     subst (λ (x : State). agree x (stateAt zs j) ≡ true) (sym (ap (stateAt zs) p ∙ t .own-state))
@@ -88,11 +89,11 @@ apart-turn {xs} {zs} {r} {h} {w} {s} {ws} t a b m i j ne (inr p) (inr q) =
 
 -- a held copy has the new words after a turn
 current-turn :
-  {xs zs : List Copy} {r : ℕ} {h : ℕ → State → State} {w : List ℕ → List ℕ} {s : State} {ws : List ℕ} → Turned xs zs r h w s ws
-  → (truth truth′ : List ℕ) → ((i : ℕ) → valid (stateAt xs i) ≡ true → wordsAt xs i ≡ truth)
-  → ((k : ℕ) → k ≢ r → below (h k (stateAt xs k)) (stateAt xs k) ≡ true)
-  → ((k : ℕ) → k ≢ r → valid (h k (stateAt xs k)) ≡ true → w truth ≡ truth′) → (valid s ≡ true → ws ≡ truth′)
-  → (i : ℕ) → (i ≡ r) ⊎ (i ≡ r → ⊥) → valid (stateAt zs i) ≡ true → wordsAt zs i ≡ truth′
+    {xs zs : List Copy} {r : ℕ} {h : ℕ → State → State} {w : List ℕ → List ℕ} {s : State} {ws : List ℕ} → Turned xs zs r h w s ws
+    → (truth truth′ : List ℕ) → ((i : ℕ) → valid (stateAt xs i) ≡ true → wordsAt xs i ≡ truth)
+    → ((k : ℕ) → k ≢ r → below (h k (stateAt xs k)) (stateAt xs k) ≡ true)
+    → ((k : ℕ) → k ≢ r → valid (h k (stateAt xs k)) ≡ true → w truth ≡ truth′) → (valid s ≡ true → ws ≡ truth′)
+    → (i : ℕ) → (i ≡ r) ⊎ (i ≡ r → ⊥) → valid (stateAt zs i) ≡ true → wordsAt zs i ≡ truth′
 current-turn {xs} {zs} {r} {h} {w} {s} {ws} t truth truth′ old b wt wr i (inl p) e =
     ap (wordsAt zs) p ∙ t .own-words held ∙ wr held
   where
@@ -107,23 +108,23 @@ current-turn {xs} {zs} {r} {h} {w} {s} {ws} t truth truth′ old b wt wr i (inr 
 -- the one argument: the others lose attributes or keep them, the requester agrees with each, who stays valid has the new
 -- words, and with no owner left memory has them
 pub turn-moved :
-  {xs zs : List Copy} {r : ℕ} {h : ℕ → State → State} {w : List ℕ → List ℕ} {s : State} {ws : List ℕ}
-  (holding : Bool) (home home′ truth truth′ : List ℕ) → valid s ≡ holding → Turned xs zs r h w s ws
-  → Coherent (record { copies = xs; home = home }) truth
-  → ((k : ℕ) → k ≢ r → below (h k (stateAt xs k)) (stateAt xs k) ≡ true)
-  → ((k : ℕ) → k ≢ r → agree s (h k (stateAt xs k)) ≡ true)
-  → ((k : ℕ) → k ≢ r → valid (h k (stateAt xs k)) ≡ true → w truth ≡ truth′) → (valid s ≡ true → ws ≡ truth′)
-  → (((i : ℕ) → owned (stateAt zs i) ≡ false) → home′ ≡ truth′)
-  → length home′ ≡ length truth′
-  → Moved (record { copies = xs; home = home }) (record { copies = zs; home = home′ }) r holding truth′
-turn-moved {xs} {zs} {r} {h} {w} {s} {ws} holding home home′ truth truth′ v t ok b m wt wr sf lg = record
-  { coherent = record
-      { apart = λ i j ne. apart-turn t (ok .apart) b m i j ne (cases-eq i r) (cases-eq j r)
-      ; current = λ i e. current-turn t truth truth′ (ok .current) b wt wr i (cases-eq i r) e
-      ; safe = sf
-      ; wide = lg
-      }
-  ; no-gain = λ k ne e. below-valid (h k (stateAt xs k)) (stateAt xs k) (b k ne) (subst (λ (x : State). valid x ≡ true) (t .other-state k ne) e)
-  ; own = ap valid (t .own-state) ∙ v
-  ; long = t .long
-  }
+    {xs zs : List Copy} {r : ℕ} {h : ℕ → State → State} {w : List ℕ → List ℕ} {s : State} {ws : List ℕ}
+    (holding : Bool) (home home′ truth truth′ : List ℕ) → valid s ≡ holding → Turned xs zs r h w s ws
+    → Coherent (record { copies = xs; home = home }) truth
+    → ((k : ℕ) → k ≢ r → below (h k (stateAt xs k)) (stateAt xs k) ≡ true)
+    → ((k : ℕ) → k ≢ r → agree s (h k (stateAt xs k)) ≡ true)
+    → ((k : ℕ) → k ≢ r → valid (h k (stateAt xs k)) ≡ true → w truth ≡ truth′) → (valid s ≡ true → ws ≡ truth′)
+    → (((i : ℕ) → owned (stateAt zs i) ≡ false) → home′ ≡ truth′)
+    → length home′ ≡ length truth′
+    → Moved (record { copies = xs; home = home }) (record { copies = zs; home = home′ }) r holding truth′
+turn-moved {xs} {zs} {r} {h} {w} {s} {ws} holding home home′ truth truth′ v t ok b m wt wr sf lg = record {
+  coherent = record {
+    apart = λ i j ne. apart-turn t (ok .apart) b m i j ne (cases-eq i r) (cases-eq j r);
+    current = λ i e. current-turn t truth truth′ (ok .current) b wt wr i (cases-eq i r) e;
+    safe = sf;
+    wide = lg;
+  };
+  no-gain = λ k ne e. below-valid (h k (stateAt xs k)) (stateAt xs k) (b k ne) (subst (λ (x : State). valid x ≡ true) (t .other-state k ne) e);
+  own = ap valid (t .own-state) ∙ v;
+  long = t .long;
+}

@@ -45,12 +45,12 @@ tidy-wordsAt : (xs : List Copy) (k : ℕ) → valid (stateAt xs k) ≡ true → 
 tidy-wordsAt xs k e = ap (λ (x : Copy). x .words) (tidy-at xs k ∙ cond-true (valid (stateAt xs k)) (getD xs k none) none e)
 
 tidy-coherent : (xs : List Copy) (home truth : List ℕ) → Coherent (record { copies = xs; home = home }) truth → Coherent (record { copies = map tidy xs; home = home }) truth
-tidy-coherent xs home truth ok = record
-  { apart = λ i j ne. subst (λ (s : State). agree s (stateAt (map tidy xs) j) ≡ true) (sym (tidy-stateAt xs i)) (subst (λ (s : State). agree (stateAt xs i) s ≡ true) (sym (tidy-stateAt xs j)) (ok .apart i j ne))
-  ; current = λ i e. let h : valid (stateAt xs i) ≡ true = ap valid (sym (tidy-stateAt xs i)) ∙ e in tidy-wordsAt xs i h ∙ ok .current i h
-  ; safe = λ n. ok .safe (λ i. ap owned (sym (tidy-stateAt xs i)) ∙ n i)
-  ; wide = ok .wide
-  }
+tidy-coherent xs home truth ok = record {
+  apart = λ i j ne. subst (λ (s : State). agree s (stateAt (map tidy xs) j) ≡ true) (sym (tidy-stateAt xs i)) (subst (λ (s : State). agree (stateAt xs i) s ≡ true) (sym (tidy-stateAt xs j)) (ok .apart i j ne));
+  current = λ i e. let h : valid (stateAt xs i) ≡ true = ap valid (sym (tidy-stateAt xs i)) ∙ e in tidy-wordsAt xs i h ∙ ok .current i h;
+  safe = λ n. ok .safe (λ i. ap owned (sym (tidy-stateAt xs i)) ∙ n i);
+  wide = ok .wide;
+}
 
 -- a seat of the column is the seat's copy
 pub column-at : (n : ℕ) (cs : List Cache) (k : ℕ) → getD (copiesOf n cs) k none ≡ look (getD cs k []) n
@@ -108,17 +108,17 @@ module _ (lines sets n : ℕ) where
       ∙ ap (λ (ys : List Copy). look c m ∷ ys) (look-other m ne cs xs (λ k l. o (suc k) (omega arith)))
 
   held-install :
-    (cs : List Cache) (xs : List Copy) → length xs ≡ length cs → InOrder lines sets cs → Fits n cs xs
-    → copiesHeld (putEach n cs xs) + holders (copiesOf n cs) ≡ copiesHeld cs + holders xs
+      (cs : List Cache) (xs : List Copy) → length xs ≡ length cs → InOrder lines sets cs → Fits n cs xs
+      → copiesHeld (putEach n cs xs) + holders (copiesOf n cs) ≡ copiesHeld cs + holders xs
   held-install [] [] e o f = refl
   held-install [] (x ∷ xs) e o f = absurd (omega arith)
   held-install (c ∷ cs) [] e o f = absurd (omega arith)
   held-install (c ∷ cs) (x ∷ xs) e o f =
-      omega
-        ( arith
-        , heldIn-put lines sets c (o 0 (omega arith)) n x (f 0 (omega arith))
-        , held-install cs xs (omega arith) (λ k l. o (suc k) (omega arith)) (λ k l. f (suc k) (omega arith))
-        )
+      omega (
+        arith,
+        heldIn-put lines sets c (o 0 (omega arith)) n x (f 0 (omega arith)),
+        held-install cs xs (omega arith) (λ k l. o (suc k) (omega arith)) (λ k l. f (suc k) (omega arith)),
+      )
 
 -- caches and memory of the agreed sizes, in order, every line coherent with its newest words
 pub record Sound (z : Sizes) (truth : List (List ℕ)) (cs : List Cache) (memory : List (List ℕ)) : Type 0 where
@@ -131,9 +131,9 @@ pub record Sound (z : Sizes) (truth : List (List ℕ)) (cs : List Cache) (memory
 
 -- the other seats that lose the line, and the requester that gains it
 gained :
-  (xs ys : List Copy) (r : ℕ) → length ys ≡ length xs → r < length xs
-  → ((k : ℕ) → k ≢ r → valid (stateAt ys k) ≡ true → valid (stateAt xs k) ≡ true)
-  → lostIn ys (set xs r none) ≡ one (valid (stateAt ys r))
+    (xs ys : List Copy) (r : ℕ) → length ys ≡ length xs → r < length xs
+    → ((k : ℕ) → k ≢ r → valid (stateAt ys k) ≡ true → valid (stateAt xs k) ≡ true)
+    → lostIn ys (set xs r none) ≡ one (valid (stateAt ys r))
 gained [] ys r e l g = absurd (omega arith)
 gained (x ∷ xs) [] r e l g = absurd (omega arith)
 gained (x ∷ xs) (y ∷ ys) zero e l g =
@@ -142,23 +142,22 @@ gained (x ∷ xs) (y ∷ ys) zero e l g =
     rest : lostIn ys xs ≡ 0
     rest = none-gained xs ys (omega arith) (λ i h. g (suc i) (omega arith) h)
 gained (x ∷ xs) (y ∷ ys) (suc r) e l g =
-    elim (valid (y .state)) as (λ b. valid (y .state) ≡ b → one (b && not (valid (x .state))) + lostIn ys (set xs r none) ≡ one (valid (stateAt ys r)))
-    [ true ↦ λ t. rw (g 0 (omega arith) t) (omega (arith, gained xs ys r (omega arith) (omega arith) (λ k ne h. g (suc k) (omega arith) h)))
-    | false ↦ λ t. omega (arith, gained xs ys r (omega arith) (omega arith) (λ k ne h. g (suc k) (omega arith) h))
+    elim (valid (y .state)) as (λ b. valid (y .state) ≡ b → one (b && not (valid (x .state))) + lostIn ys (set xs r none) ≡ one (valid (stateAt ys r))) [
+      | true ↦ λ t. rw (g 0 (omega arith) t) (omega (arith, gained xs ys r (omega arith) (omega arith) (λ k ne h. g (suc k) (omega arith) h)))
+      | false ↦ λ t. omega (arith, gained xs ys r (omega arith) (omega arith) (λ k ne h. g (suc k) (omega arith) h))
     ] refl
 
 pub lost-count :
-  (xs ys : List Copy) (r : ℕ) → length ys ≡ length xs → r < length xs
-  → ((k : ℕ) → k ≢ r → valid (stateAt ys k) ≡ true → valid (stateAt xs k) ≡ true)
-  → holders ys + lost r xs ys + one (valid (stateAt xs r)) ≡ holders xs + one (valid (stateAt ys r))
+    (xs ys : List Copy) (r : ℕ) → length ys ≡ length xs → r < length xs
+    → ((k : ℕ) → k ≢ r → valid (stateAt ys k) ≡ true → valid (stateAt xs k) ≡ true)
+    → holders ys + lost r xs ys + one (valid (stateAt xs r)) ≡ holders xs + one (valid (stateAt ys r))
 lost-count xs ys r e l g =
     omega (arith, holders-lost (set xs r none) ys (length-set xs r none ∙ sym e), gained xs ys r e l g, holders-set xs r none l)
 
 module _ (z : Sizes) (truth : List (List ℕ)) (cs : List Cache) (memory : List (List ℕ)) (ok : Sound z truth cs memory)
-  (n : ℕ) (there : n < z .lines) (r : ℕ) (on : r < z .seats) (col : Column) (holding : Bool) (line : List ℕ)
-  (moved : Moved (lineIn cs memory n) col r holding line)
-  (space : holding ≡ true → room (getD cs r []) n ≡ true) where
-
+    (n : ℕ) (there : n < z .lines) (r : ℕ) (on : r < z .seats) (col : Column) (holding : Bool) (line : List ℕ)
+    (moved : Moved (lineIn cs memory n) col r holding line)
+    (space : holding ≡ true → room (getD cs r []) n ≡ true) where
   as-long : length (col .copies) ≡ length cs
   as-long = moved .long ∙ length-map cs (λ c. look c n)
 
@@ -181,24 +180,24 @@ module _ (z : Sizes) (truth : List (List ℕ)) (cs : List Cache) (memory : List 
       ∙ ap (λ (h : List ℕ). record { copies = copiesOf j cs; home = h }) (getD-set-other memory n j (col .home) [] ne)
 
   pub install-sound : length line ≡ z .width → Sound z (set truth n line) (putEach n cs (col .copies)) (set memory n (col .home))
-  install-sound wide = record
-    { truths = length-set truth n line ∙ ok .truths
-    ; widths = λ j l. ⊎-elim
+  install-sound wide = record {
+    truths = length-set truth n line ∙ ok .truths;
+    widths = λ j l. ⊎-elim
         (λ p. ap length (ap (λ (k : ℕ). getD (set truth n line) k []) p ∙ getD-set-same truth n line [] (subst (λ (k : ℕ). n < k) (sym (ok .truths)) there)) ∙ wide)
         (λ ne. ap length (getD-set-other truth n j line [] ne) ∙ ok .widths j l)
-        (cases-eq j n)
-    ; seated = length-putEach n cs (col .copies) ∙ ok .seated
-    ; lined = length-set memory n (col .home) ∙ ok .lined
-    ; order = λ k l.
+        (cases-eq j n);
+    seated = length-putEach n cs (col .copies) ∙ ok .seated;
+    lined = length-set memory n (col .home) ∙ ok .lined;
+    order = λ k l.
         let h : k < length cs = omega (arith, length-putEach n cs (col .copies)) in
         subst (Wf (z .lines) (z .sets)) (sym (putEach-at n cs (col .copies) as-long k))
-        (wf-put (z .lines) (z .sets) (getD cs k []) (ok .order k h) n (getD (col .copies) k none) there)
-    ; each = λ j l. ⊎-elim
+        (wf-put (z .lines) (z .sets) (getD cs k []) (ok .order k h) n (getD (col .copies) k none) there);
+    each = λ j l. ⊎-elim
         (λ p. subst (λ (k : ℕ). Coherent (lineIn (putEach n cs (col .copies)) (set memory n (col .home)) k) (getD (set truth n line) k [])) (sym p) here)
         (λ ne. subst (λ (c : Column). Coherent c (getD (set truth n line) j [])) (sym (installed-other j ne))
-          (subst (λ (w : List ℕ). Coherent (lineIn cs memory j) w) (sym (getD-set-other truth n j line [] ne)) (ok .each j l)))
-        (cases-eq j n)
-    }
+        (subst (λ (w : List ℕ). Coherent (lineIn cs memory j) w) (sym (getD-set-other truth n j line [] ne)) (ok .each j l)))
+        (cases-eq j n);
+  }
     where
       here : Coherent (lineIn (putEach n cs (col .copies)) (set memory n (col .home)) n) (getD (set truth n line) n [])
       here =
@@ -213,9 +212,9 @@ module _ (z : Sizes) (truth : List (List ℕ)) (cs : List Cache) (memory : List 
   -- the copies held, counted: the others that are lost, the requester's before and after
   pub install-count : copiesHeld (putEach n cs (col .copies)) + lost r (copiesOf n cs) (col .copies) + one (valid (stateAt (copiesOf n cs) r)) ≡ copiesHeld cs + one holding
   install-count =
-      omega
-        ( arith
-        , install-held
-        , lost-count (copiesOf n cs) (col .copies) r (moved .long) (subst (λ (k : ℕ). r < k) (sym (length-map cs (λ c. look c n) ∙ ok .seated)) on) (moved .no-gain)
-        , ap one (moved .own)
-        )
+      omega (
+        arith,
+        install-held,
+        lost-count (copiesOf n cs) (col .copies) r (moved .long) (subst (λ (k : ℕ). r < k) (sym (length-map cs (λ c. look c n) ∙ ok .seated)) on) (moved .no-gain),
+        ap one (moved .own),
+      )

@@ -36,8 +36,8 @@ alone-others r xs e i ne =
 
 -- the seats after hearing
 pub hear-at :
-  (h : ℕ → State → State) (w : List ℕ → List ℕ) → ((k : ℕ) → h k Invalid ≡ Invalid) → (k : ℕ) (xs : List Copy) (i : ℕ)
-  → getD (hear h w k xs) i none ≡ kept (h (k + i) (stateAt xs i)) (w (wordsAt xs i))
+    (h : ℕ → State → State) (w : List ℕ → List ℕ) → ((k : ℕ) → h k Invalid ≡ Invalid) → (k : ℕ) (xs : List Copy) (i : ℕ)
+    → getD (hear h w k xs) i none ≡ kept (h (k + i) (stateAt xs i)) (w (wordsAt xs i))
 hear-at h w z k [] i = rw (z (k + i)) refl
 hear-at h w z k (x ∷ xs) zero = rw (add-zero k) refl
 hear-at h w z k (x ∷ xs) (suc i) =
@@ -54,13 +54,13 @@ none-later x xs e f (suc i) = f i
 
 -- the words supplied: an owner's if there is one, memory's if there is none
 pub supplied-is :
-  (xs : List Copy) (home truth : List ℕ) → ((i : ℕ) → owned (stateAt xs i) ≡ true → wordsAt xs i ≡ truth)
-  → (((i : ℕ) → owned (stateAt xs i) ≡ false) → home ≡ truth) → supplied xs home ≡ truth
+    (xs : List Copy) (home truth : List ℕ) → ((i : ℕ) → owned (stateAt xs i) ≡ true → wordsAt xs i ≡ truth)
+    → (((i : ℕ) → owned (stateAt xs i) ≡ false) → home ≡ truth) → supplied xs home ≡ truth
 supplied-is [] home truth h s = s (λ i. refl)
 supplied-is (x ∷ xs) home truth h s =
-    elim (owned (x .state)) as (λ b. owned (x .state) ≡ b → cond b (x .words) (supplied xs home) ≡ truth)
-    [ true ↦ λ e. h 0 e
-    | false ↦ λ e. supplied-is xs home truth (λ i. h (suc i)) (λ n. s (none-later x xs e n))
+    elim (owned (x .state)) as (λ b. owned (x .state) ≡ b → cond b (x .words) (supplied xs home) ≡ truth) [
+      | true ↦ λ e. h 0 e
+      | false ↦ λ e. supplied-is xs home truth (λ i. h (suc i)) (λ n. s (none-later x xs e n))
     ] refl
 
 -- the owner that the search from k finds is one, and none is found only where there is none
@@ -75,9 +75,9 @@ found-later k x xs e (Some j) (i, (p, l, q)) = (suc i, (p ∙ suc-add k i ∙ sy
 pub found : (k : ℕ) (xs : List Copy) → Found k xs (ownerFrom k xs)
 found k [] = λ i. refl
 found k (x ∷ xs) =
-    elim (owned (x .state)) as (λ b. owned (x .state) ≡ b → Found k (x ∷ xs) (cond b (Some k) (ownerFrom (suc k) xs)))
-    [ true ↦ λ e. (0, (sym (add-zero k), omega arith, e))
-    | false ↦ λ e. found-later k x xs e (ownerFrom (suc k) xs) (found (suc k) xs)
+    elim (owned (x .state)) as (λ b. owned (x .state) ≡ b → Found k (x ∷ xs) (cond b (Some k) (ownerFrom (suc k) xs))) [
+      | true ↦ λ e. (0, (sym (add-zero k), omega arith, e))
+      | false ↦ λ e. found-later k x xs e (ownerFrom (suc k) xs) (found (suc k) xs)
     ] refl
 
 -- the owner that is found
@@ -90,13 +90,13 @@ holders-lost [] [] e = refl
 holders-lost [] (y ∷ ys) e = absurd (omega arith)
 holders-lost (x ∷ xs) [] e = absurd (omega arith)
 holders-lost (x ∷ xs) (y ∷ ys) e =
-    elim (valid (x .state)) as (λ a. one (valid (y .state)) + holders ys + (one (a && not (valid (y .state))) + lostIn xs ys) ≡ one a + holders xs + (one (valid (y .state) && not a) + lostIn ys xs))
-    [ true ↦
-      elim (valid (y .state)) as (λ b. one b + holders ys + (one (not b) + lostIn xs ys) ≡ 1 + holders xs + (one (b && false) + lostIn ys xs))
-      [ true ↦ omega (arith, holders-lost xs ys (omega arith)) | false ↦ omega (arith, holders-lost xs ys (omega arith)) ]
-    | false ↦
-      elim (valid (y .state)) as (λ b. one b + holders ys + (0 + lostIn xs ys) ≡ 0 + holders xs + (one (b && true) + lostIn ys xs))
-      [ true ↦ omega (arith, holders-lost xs ys (omega arith)) | false ↦ omega (arith, holders-lost xs ys (omega arith)) ]
+    elim (valid (x .state)) as (λ a. one (valid (y .state)) + holders ys + (one (a && not (valid (y .state))) + lostIn xs ys) ≡ one a + holders xs + (one (valid (y .state) && not a) + lostIn ys xs)) [
+      | true ↦
+          elim (valid (y .state)) as (λ b. one b + holders ys + (one (not b) + lostIn xs ys) ≡ 1 + holders xs + (one (b && false) + lostIn ys xs))
+          [ true ↦ omega (arith, holders-lost xs ys (omega arith)) | false ↦ omega (arith, holders-lost xs ys (omega arith)) ]
+      | false ↦
+          elim (valid (y .state)) as (λ b. one b + holders ys + (0 + lostIn xs ys) ≡ 0 + holders xs + (one (b && true) + lostIn ys xs))
+          [ true ↦ omega (arith, holders-lost xs ys (omega arith)) | false ↦ omega (arith, holders-lost xs ys (omega arith)) ]
     ]
 
 -- no seat gains a copy: none lost backwards
@@ -104,9 +104,9 @@ pub none-gained : (xs ys : List Copy) → length xs ≡ length ys → ((i : ℕ)
 none-gained xs [] e h = refl
 none-gained [] (y ∷ ys) e h = absurd (omega arith)
 none-gained (x ∷ xs) (y ∷ ys) e h =
-    elim (valid (y .state)) as (λ b. valid (y .state) ≡ b → one (b && not (valid (x .state))) + lostIn ys xs ≡ 0)
-    [ true ↦ λ t. rw (h 0 t) (omega (arith, none-gained xs ys (omega arith) (λ i. h (suc i))))
-    | false ↦ λ t. omega (arith, none-gained xs ys (omega arith) (λ i. h (suc i)))
+    elim (valid (y .state)) as (λ b. valid (y .state) ≡ b → one (b && not (valid (x .state))) + lostIn ys xs ≡ 0) [
+      | true ↦ λ t. rw (h 0 t) (omega (arith, none-gained xs ys (omega arith) (λ i. h (suc i))))
+      | false ↦ λ t. omega (arith, none-gained xs ys (omega arith) (λ i. h (suc i)))
     ] refl
 
 -- holders as one copy is set

@@ -91,50 +91,50 @@ module _ (n : ℕ) (x : Copy) where
   find-replace [] o e = absurd (false≢true e)
   find-replace (s ∷ ss) o e =
       elim (stands n s) as
-      (λ b. stands n s ≡ b → one b + times n ss ≤ 1 → (b || has n ss) ≡ true → find n (cond b (slot n x ∷ ss) (s ∷ replace n x ss)) ≡ tidy x)
-      [ true ↦ λ p o e. rw (stands-same n x, find-absent n ss (absent-times n ss (omega arith)))
-      | false ↦ λ p o e. rw p (find-replace ss (omega arith) e)
+      (λ b. stands n s ≡ b → one b + times n ss ≤ 1 → (b || has n ss) ≡ true → find n (cond b (slot n x ∷ ss) (s ∷ replace n x ss)) ≡ tidy x) [
+        | true ↦ λ p o e. rw (stands-same n x, find-absent n ss (absent-times n ss (omega arith)))
+        | false ↦ λ p o e. rw p (find-replace ss (omega arith) e)
       ] refl o e
 
   find-fill : (ss : List Slot) → valid (x .state) ≡ true → has n ss ≡ false → gap ss ≡ true → find n (fill n x ss) ≡ x
   find-fill [] v a g = absurd (false≢true g)
   find-fill (s ∷ ss) v a g =
-      elim (full s) as (λ b. full s ≡ b → (not b || gap ss) ≡ true → find n (cond b (s ∷ fill n x ss) (slot n x ∷ ss)) ≡ x)
-      [ true ↦ λ p g. rw (or-parts (stands n s) (has n ss) a .0) (find-fill ss v (or-parts (stands n s) (has n ss) a .1) g)
-      | false ↦ λ p g. rw (stands-same n x, v)
+      elim (full s) as (λ b. full s ≡ b → (not b || gap ss) ≡ true → find n (cond b (s ∷ fill n x ss) (slot n x ∷ ss)) ≡ x) [
+        | true ↦ λ p g. rw (or-parts (stands n s) (has n ss) a .0) (find-fill ss v (or-parts (stands n s) (has n ss) a .1) g)
+        | false ↦ λ p g. rw (stands-same n x, v)
       ] refl g
 
   pub find-put-same : (ss : List Slot) → times n ss ≤ 1 → (valid (x .state) ≡ true → (has n ss || gap ss) ≡ true) → find n (putIn n x ss) ≡ tidy x
   find-put-same ss o room =
-      elim (has n ss) as (λ b. has n ss ≡ b → (valid (x .state) ≡ true → (b || gap ss) ≡ true) → find n (cond b (replace n x ss) (cond (valid (x .state)) (fill n x ss) ss)) ≡ tidy x)
-      [ true ↦ λ p r. find-replace ss o p
-      | false ↦ λ p r.
-        elim (valid (x .state)) as (λ v. valid (x .state) ≡ v → find n (cond v (fill n x ss) ss) ≡ cond v x none)
-        [ true ↦ λ v. find-fill ss v p (r v) | false ↦ λ v. find-absent n ss p ] refl
+      elim (has n ss) as (λ b. has n ss ≡ b → (valid (x .state) ≡ true → (b || gap ss) ≡ true) → find n (cond b (replace n x ss) (cond (valid (x .state)) (fill n x ss) ss)) ≡ tidy x) [
+        | true ↦ λ p r. find-replace ss o p
+        | false ↦ λ p r.
+            elim (valid (x .state)) as (λ v. valid (x .state) ≡ v → find n (cond v (fill n x ss) ss) ≡ cond v x none)
+            [ true ↦ λ v. find-fill ss v p (r v) | false ↦ λ v. find-absent n ss p ] refl
       ] refl room
 
   -- another line, found as before
   find-replace-other : (m : ℕ) → m ≢ n → (ss : List Slot) → find m (replace n x ss) ≡ find m ss
   find-replace-other m ne [] = refl
   find-replace-other m ne (s ∷ ss) =
-      elim (stands n s) as (λ b. stands n s ≡ b → find m (cond b (slot n x ∷ ss) (s ∷ replace n x ss)) ≡ find m (s ∷ ss))
-      [ true ↦ λ p. rw (stands-other n m x ne, other-stands n m s ne p)
-      | false ↦ λ p. ap (λ (y : Copy). cond (stands m s) (s .copy) y) (find-replace-other m ne ss)
+      elim (stands n s) as (λ b. stands n s ≡ b → find m (cond b (slot n x ∷ ss) (s ∷ replace n x ss)) ≡ find m (s ∷ ss)) [
+        | true ↦ λ p. rw (stands-other n m x ne, other-stands n m s ne p)
+        | false ↦ λ p. ap (λ (y : Copy). cond (stands m s) (s .copy) y) (find-replace-other m ne ss)
       ] refl
 
   find-fill-other : (m : ℕ) → m ≢ n → (ss : List Slot) → find m (fill n x ss) ≡ find m ss
   find-fill-other m ne [] = refl
   find-fill-other m ne (s ∷ ss) =
-      elim (full s) as (λ b. full s ≡ b → find m (cond b (s ∷ fill n x ss) (slot n x ∷ ss)) ≡ find m (s ∷ ss))
-      [ true ↦ λ p. ap (λ (y : Copy). cond (stands m s) (s .copy) y) (find-fill-other m ne ss)
-      | false ↦ λ p. rw (stands-other n m x ne, empty-stands m s p)
+      elim (full s) as (λ b. full s ≡ b → find m (cond b (s ∷ fill n x ss) (slot n x ∷ ss)) ≡ find m (s ∷ ss)) [
+        | true ↦ λ p. ap (λ (y : Copy). cond (stands m s) (s .copy) y) (find-fill-other m ne ss)
+        | false ↦ λ p. rw (stands-other n m x ne, empty-stands m s p)
       ] refl
 
   pub find-put-other : (m : ℕ) → m ≢ n → (ss : List Slot) → find m (putIn n x ss) ≡ find m ss
   find-put-other m ne ss =
-      elim (has n ss) as (λ b. find m (cond b (replace n x ss) (cond (valid (x .state)) (fill n x ss) ss)) ≡ find m ss)
-      [ true ↦ find-replace-other m ne ss
-      | false ↦ elim (valid (x .state)) as (λ v. find m (cond v (fill n x ss) ss) ≡ find m ss) [ true ↦ find-fill-other m ne ss | false ↦ refl ]
+      elim (has n ss) as (λ b. find m (cond b (replace n x ss) (cond (valid (x .state)) (fill n x ss) ss)) ≡ find m ss) [
+        | true ↦ find-replace-other m ne ss
+        | false ↦ elim (valid (x .state)) as (λ v. find m (cond v (fill n x ss) ss) ≡ find m ss) [ true ↦ find-fill-other m ne ss | false ↦ refl ]
       ]
 
   -- how often a line stands
@@ -152,15 +152,16 @@ module _ (n : ℕ) (x : Copy) where
 
   pub times-put : (ss : List Slot) → ((m : ℕ) → times m ss ≤ 1) → (m : ℕ) → times m (putIn n x ss) ≤ 1
   times-put ss once m =
-      elim (has n ss) as (λ b. has n ss ≡ b → times m (cond b (replace n x ss) (cond (valid (x .state)) (fill n x ss) ss)) ≤ 1)
-      [ true ↦ λ p. omega (arith, times-replace ss m, once m)
-      | false ↦ λ p.
-        elim (valid (x .state)) as (λ v. times m (cond v (fill n x ss) ss) ≤ 1)
-        [ true ↦ elim (eqb n m) as (λ q. eqb n m ≡ q → times m (fill n x ss) ≤ 1)
-          [ true ↦ λ q. omega (arith, times-fill ss m, ap one q, subst (λ (j : ℕ). times j ss ≡ 0) (eqb-true n m q) (times-absent n ss p))
-          | false ↦ λ q. omega (arith, times-fill ss m, ap one q, once m)
-          ] refl
-        | false ↦ once m ]
+      elim (has n ss) as (λ b. has n ss ≡ b → times m (cond b (replace n x ss) (cond (valid (x .state)) (fill n x ss) ss)) ≤ 1) [
+        | true ↦ λ p. omega (arith, times-replace ss m, once m)
+        | false ↦ λ p.
+            elim (valid (x .state)) as (λ v. times m (cond v (fill n x ss) ss) ≤ 1) [
+              | true ↦ elim (eqb n m) as (λ q. eqb n m ≡ q → times m (fill n x ss) ≤ 1) [
+                | true ↦ λ q. omega (arith, times-fill ss m, ap one q, subst (λ (j : ℕ). times j ss ≡ 0) (eqb-true n m q) (times-absent n ss p))
+                | false ↦ λ q. omega (arith, times-fill ss m, ap one q, once m)
+              ] refl
+              | false ↦ once m
+            ]
       ] refl
 
   -- how many copies stand there
@@ -179,11 +180,11 @@ module _ (n : ℕ) (x : Copy) where
   pub full-put : (ss : List Slot) → (valid (x .state) ≡ true → (has n ss || gap ss) ≡ true) → fullIn (putIn n x ss) + one (has n ss) ≡ fullIn ss + one (valid (x .state))
   full-put ss room =
       elim (has n ss) as
-      (λ b. has n ss ≡ b → (valid (x .state) ≡ true → (b || gap ss) ≡ true) → fullIn (cond b (replace n x ss) (cond (valid (x .state)) (fill n x ss) ss)) + one b ≡ fullIn ss + one (valid (x .state)))
-      [ true ↦ λ p r. full-replace ss p
-      | false ↦ λ p r.
-        elim (valid (x .state)) as (λ v. valid (x .state) ≡ v → fullIn (cond v (fill n x ss) ss) + 0 ≡ fullIn ss + one v)
-        [ true ↦ λ v. omega (arith, full-fill ss v (r v)) | false ↦ λ v. omega arith ] refl
+      (λ b. has n ss ≡ b → (valid (x .state) ≡ true → (b || gap ss) ≡ true) → fullIn (cond b (replace n x ss) (cond (valid (x .state)) (fill n x ss) ss)) + one b ≡ fullIn ss + one (valid (x .state))) [
+        | true ↦ λ p r. full-replace ss p
+        | false ↦ λ p r.
+            elim (valid (x .state)) as (λ v. valid (x .state) ≡ v → fullIn (cond v (fill n x ss) ss) + 0 ≡ fullIn ss + one v)
+            [ true ↦ λ v. omega (arith, full-fill ss v (r v)) | false ↦ λ v. omega arith ] refl
       ] refl room
 
   -- only line n can be new there
@@ -205,9 +206,9 @@ module _ (n : ℕ) (x : Copy) where
 
   pub length-putIn : (ss : List Slot) → length (putIn n x ss) ≡ length ss
   length-putIn ss =
-      elim (has n ss) as (λ b. length (cond b (replace n x ss) (cond (valid (x .state)) (fill n x ss) ss)) ≡ length ss)
-      [ true ↦ length-replace ss
-      | false ↦ elim (valid (x .state)) as (λ v. length (cond v (fill n x ss) ss) ≡ length ss) [ true ↦ length-fill ss | false ↦ refl ]
+      elim (has n ss) as (λ b. length (cond b (replace n x ss) (cond (valid (x .state)) (fill n x ss) ss)) ≡ length ss) [
+        | true ↦ length-replace ss
+        | false ↦ elim (valid (x .state)) as (λ v. length (cond v (fill n x ss) ss) ≡ length ss) [ true ↦ length-fill ss | false ↦ refl ]
       ]
 
 -- where no way is empty, the line in the lowest way stands
@@ -250,9 +251,9 @@ empty-full (suc ways) = omega (arith, empty-full ways)
 pub none-full : (ss : List Slot) → ((n : ℕ) → has n ss ≡ false) → fullIn ss ≡ 0
 none-full [] h = refl
 none-full (s ∷ ss) h =
-    elim (full s) as (λ b. full s ≡ b → one b + fullIn ss ≡ 0)
-    [ true ↦ λ p. absurd (both-ways (stands (s .tag) s) (or-parts (stands (s .tag) s) (has (s .tag) ss) (h (s .tag)) .0) (rw (eq-eqb (s .tag) (s .tag) refl, p)))
-    | false ↦ λ p. omega (arith, none-full ss (λ n. or-parts (stands n s) (has n ss) (h n) .1))
+    elim (full s) as (λ b. full s ≡ b → one b + fullIn ss ≡ 0) [
+      | true ↦ λ p. absurd (both-ways (stands (s .tag) s) (or-parts (stands (s .tag) s) (has (s .tag) ss) (h (s .tag)) .0) (rw (eq-eqb (s .tag) (s .tag) refl, p)))
+      | false ↦ λ p. omega (arith, none-full ss (λ n. or-parts (stands n s) (has n ss) (h n) .1))
     ] refl
 
 -- what stands, put again, changes nothing

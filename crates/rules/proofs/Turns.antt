@@ -28,16 +28,16 @@ module _ (c : Column) (truth : List ℕ) (ok : Coherent c truth) (r : ℕ) (on :
 
   -- at alone, a seat that heard holds nothing
   heard-alone :
-    (h : ℕ → State → State) (w : List ℕ → List ℕ) → ((k : ℕ) → h k Invalid ≡ Invalid) → alone r (hear h w 0 (c .copies)) ≡ true
-    → (k : ℕ) → k ≢ r → valid (h k (stateAt (c .copies) k)) ≡ false
+      (h : ℕ → State → State) (w : List ℕ → List ℕ) → ((k : ℕ) → h k Invalid ≡ Invalid) → alone r (hear h w 0 (c .copies)) ≡ true
+      → (k : ℕ) → k ≢ r → valid (h k (stateAt (c .copies) k)) ≡ false
   heard-alone h w z e k ne =
       subst (λ (x : State). valid x ≡ false) (ap (λ (x : Copy). x .state) (hear-at h w z 0 (c .copies) k) ∙ ap (λ (j : ℕ). h j (stateAt (c .copies) k)) (zero-add k))
       (alone-others r (hear h w 0 (c .copies)) e k ne)
 
   -- memory after a read shared
   reflected-truth :
-    (zs : List Copy) (o : Option ℕ) → Found 0 (c .copies) o → ((i : ℕ) → owned (stateAt zs i) ≡ false)
-    → cond (leavesO o zs) (supplied (c .copies) (c .home)) (c .home) ≡ truth
+      (zs : List Copy) (o : Option ℕ) → Found 0 (c .copies) o → ((i : ℕ) → owned (stateAt zs i) ≡ false)
+      → cond (leavesO o zs) (supplied (c .copies) (c .home)) (c .home) ≡ truth
   reflected-truth zs None f n = ok .safe f
   reflected-truth zs (Some k) f n = rw (unowned-isO (stateAt zs k) (n k)) supplied-truth
 
@@ -53,21 +53,23 @@ module _ (c : Column) (truth : List ℕ) (ok : Coherent c truth) (r : ℕ) (on :
     where
       turned : Turned (c .copies) (set (c .copies) r none) r (λ k t. t) same Invalid []
       turned = by-setting (c .copies) r Invalid [] on
+
       before : ((i : ℕ) → owned (stateAt (set (c .copies) r none) i) ≡ false) → owned (stateAt (c .copies) r) ≡ false → (i : ℕ) → (i ≡ r) ⊎ (i ≡ r → ⊥) → owned (stateAt (c .copies) i) ≡ false
       before n e i (inl p) = ap (λ (j : ℕ). owned (stateAt (c .copies) j)) p ∙ e
       before n e i (inr p) = sym (ap owned (turned .other-state i p)) ∙ n i
+
       safe : ((i : ℕ) → owned (stateAt (set (c .copies) r none) i) ≡ false) → c .home ≡ truth
       safe n = ⊎-elim saved (λ e. ok .safe (λ i. before n e i (cases-eq i r))) (cases-bool (owned (stateAt (c .copies) r)))
 
   pub writeBack-moved : owned (stateAt (c .copies) r) ≡ true → Moved c (writeBack r c) r (valid (stateAt (c .copies) r)) truth
   unfolding writeBack
-  writeBack-moved e = record
-    { coherent = record
-        { apart = ok .apart; current = ok .current; safe = λ n. words; wide = ap length words }
-    ; no-gain = λ k ne h. h
-    ; own = refl
-    ; long = refl
-    }
+  writeBack-moved e = record {
+    coherent = record
+        { apart = ok .apart; current = ok .current; safe = λ n. words; wide = ap length words };
+    no-gain = λ k ne h. h;
+    own = refl;
+    long = refl;
+  }
     where
       words : wordsAt (c .copies) r ≡ truth
       words = ok .current r (owned-valid (stateAt (c .copies) r) e)
@@ -176,9 +178,9 @@ module _ (c : Column) (truth : List ℕ) (ok : Coherent c truth) (r : ℕ) (on :
           (λ k ne. below-TU cell law k (stateAt xs k)) (agree-after-TU (alone r ys) refl) (λ k ne e. refl)
           (λ e. ap (λ (w : List ℕ). set w o v) (ok .current r (sym (valid-TU cell law r (alone r ys) (stateAt xs r)) ∙ e)))
           (λ n. ap (λ (w : List ℕ). set w o v) (ok .safe (λ i. ⊎-elim
-            (λ p. ap (λ (j : ℕ). owned (stateAt xs j)) p ∙ sym (owned-TU cell law r (alone r ys) (stateAt xs r)) ∙ sym (ap owned (turned .own-state)) ∙ n r)
-            (λ p. sym (owned-heard-TU cell law i (stateAt xs i)) ∙ sym (ap owned (turned .other-state i p)) ∙ n i)
-            (cases-eq i r))))
+          (λ p. ap (λ (j : ℕ). owned (stateAt xs j)) p ∙ sym (owned-TU cell law r (alone r ys) (stateAt xs r)) ∙ sym (ap owned (turned .own-state)) ∙ n r)
+          (λ p. sym (owned-heard-TU cell law i (stateAt xs i)) ∙ sym (ap owned (turned .other-state i p)) ∙ n i)
+          (cases-eq i r))))
           (wide-both o v)
 
       pub throughInvalidate-moved : (owned (stateAt (c .copies) r) ≡ false → c .home ≡ truth) → Moved c (throughInvalidate cell r o v c) r (valid (stateAt (c .copies) r)) (set truth o v)

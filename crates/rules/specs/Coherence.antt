@@ -40,11 +40,11 @@ pub record Sized (z : Sizes) (memory : List (List ℕ)) : Type 0 where
 -- the run and its ledger after an opening and the calls since
 pub data Since (z : Sizes) : System → Ledger → Type 0 where
   opening :
-    (cell : Protocol) → Lawful cell → 0 < z .sets → 0 < z .width → (memory : List (List ℕ)) → Sized z memory
-    → Since z (opened cell (z .seats) (z .sets) memory) (begun (z .width) memory)
+      (cell : Protocol) → Lawful cell → 0 < z .sets → 0 < z .width → (memory : List (List ℕ)) → Sized z memory
+      → Since z (opened cell (z .seats) (z .sets) memory) (begun (z .width) memory)
   calling :
-    {s : System} {l : Ledger} → Since z s l → (call : Call)
-    → Since z (outcome (z .width) call s .system) (entered (z .seats) (addresses z) call l)
+      {s : System} {l : Ledger} → Since z s l → (call : Call)
+      → Since z (outcome (z .width) call s .system) (entered (z .seats) (addresses z) call l)
 
 -- the lines have the ledger's word at every address
 abbrev pub Equals : Sizes → List (List ℕ) → Ledger → Type 0
@@ -60,7 +60,7 @@ pub record Promise (z : Sizes) (s : System) (l : Ledger) : Type 0 where
   pub refuses : (call : Call) → dueIn (z .width) s call ≡ due (l .count) (z .seats) (addresses z) call
   -- an answered read gives the ledger's word
   pub reads : (seat address places : ℕ) → dueIn (z .width) s (Read seat address places) ≡ None
-    → outcome (z .width) (Read seat address places) s .answer ≡ l .word address
+      → outcome (z .width) (Read seat address places) s .answer ≡ l .word address
   -- after an answered settle memory has the ledger's words
   pub settles : dueIn (z .width) s Settle ≡ None → Equals z (outcome (z .width) Settle s .system .memory) l
   -- after closing too
@@ -82,7 +82,7 @@ pub record Coherence : Type 0 where
   pub since : (z : Sizes) (s : System) (l : Ledger) → Since z s l → Promise z s l
   -- after every list of calls
   pub always :
-    (cell : Protocol) → Lawful cell → (z : Sizes) → 0 < z .sets → 0 < z .width
-    → (memory : List (List ℕ)) → Sized z memory → (calls : List Call)
-    → Promise z (after (z .width) calls (opened cell (z .seats) (z .sets) memory))
+      (cell : Protocol) → Lawful cell → (z : Sizes) → 0 < z .sets → 0 < z .width
+      → (memory : List (List ℕ)) → Sized z memory → (calls : List Call)
+      → Promise z (after (z .width) calls (opened cell (z .seats) (z .sets) memory))
       (ledgerAfter (z .seats) (addresses z) calls (begun (z .width) memory))
