@@ -3,3 +3,4 @@ pub mod Counting
 pub mod Parts
 pub mod Turns
 pub mod Absent
+pub mod Obeying

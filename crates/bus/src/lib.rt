@@ -1,9 +1,8 @@
 // The bus at work: the seven transactions and the accesses made of them, over caches, a memory and a tally.
+mod bus;
 mod counts;
 mod log;
 
-pub use counts::count_displaced;
-pub use counts::count_flushed;
+pub use bus::Bus;
 pub use counts::count_read;
-pub use counts::count_transaction;
 pub use counts::count_write;
