@@ -50,3 +50,7 @@ lost-own (suc r) (x ∷ xs) (z ∷ ys) y = ap (λ n. one (valid (x .state) && no
 -- nor does it count for whether the seat is alone
 pub alone-own : (r : ℕ) (xs : List Copy) (x : Copy) → alone r (set xs r x) ≡ alone r xs
 alone-own r xs x = ap (λ (ys : List Copy). not (some valid ys)) (set-set xs r x none)
+
+pub not-not : (b : Bool) → not (not b) ≡ b
+not-not true = refl
+not-not false = refl

@@ -4,3 +4,5 @@ pub mod Parts
 pub mod Turns
 pub mod Absent
 pub mod Obeying
+pub mod Reacted
+pub mod Requests

@@ -15,4 +15,6 @@ pub struct Bus<P, M> {
 }
 
 mod drops;
+mod fills;
+mod sends;
 mod transactions;

@@ -2,6 +2,8 @@
 mod bus;
 mod counts;
 mod log;
+mod states;
+mod supplies;
 
 pub use bus::Bus;
 pub use counts::count_read;

@@ -33,10 +33,10 @@ returns g c =
           (c .write-line .ensures .lines ∙ ap (set (lines (b .memory)) line) (c .words-words .ensures))
           (ap event (c .shared .ensures))
           (c .count-transaction .ensures .value ∙ ap (λ n. tallied (event (c .shared .result)) n (b .tally)) (sym (lost-self seat (copiesOf line cs))));
-      grown = omega (arith, c .count-transaction .ensures .most);
+      stays = record { grown = omega (arith, c .count-transaction .ensures .most);
       protocol = refl;
       apart = c .write-line .ensures .aside;
       count = ap length (c .write-line .ensures .lines) ∙ length-set (lines (b .memory)) line (c .words-words .result);
       seats = refl;
-      sets = refl;
+      sets = refl };
     }; caches = refl }
