@@ -1,5 +1,6 @@
 // The bus at work: the seven transactions and the accesses made of them, over caches, a memory and a tally.
 mod bus;
+mod choice;
 mod counts;
 mod log;
 mod states;
