@@ -18,6 +18,7 @@ use Rattle.rules.specs.Caches.{Cache, find, putIn, setOf, look, put}
 use Rattle.rules.specs.Machines.{copiesOf, putEach}
 use Rattle.rules.proofs.Sets.{find-absent, find-held, find-put-other}
 use Rattle.rules.proofs.Seats.{Found, owner-owns}
+use Rattle.rules.proofs.Tables.{owned-valid}
 use Rattle.rules.proofs.Machines.{column-at, putEach-one}
 
 look-none : (c : Cache) (n : ℕ) → valid (look c n .state) ≡ false → look c n ≡ none
@@ -84,3 +85,18 @@ occupied false v w e = (refl, cc)
 pub vacant : (b : Bool) (v : ℕ) → None ≡ cond b None (Some v) → b ≡ true
 vacant true v e = refl
 vacant false v e = let z : _≡_ {A = ℕ} 0 1 = cc in absurd (omega arith)
+
+-- an owner found in another seat is on the bus and holds the line
+pub owner-there : (xs : List Copy) (r k : ℕ) → Some k ≡ ownerOf (set xs r none) → (k < length xs) × (valid (stateAt xs k) ≡ true)
+owner-there xs r k e = owner-at xs r k (owner-owns (set xs r none) (Some k) (sym e))
+  where
+    owner-at : (xs : List Copy) (r k : ℕ) → Found 0 (set xs r none) (Some k) → (k < length xs) × (valid (stateAt xs k) ≡ true)
+    owner-at xs r k (i, (p, l, q)) =
+        let is : k ≡ i = omega arith in
+        let there : k < length xs = omega (arith, length-set xs r none) in
+        let own : owned (stateAt (set xs r none) k) ≡ true = ap (λ (j : ℕ). owned (stateAt (set xs r none) j)) is ∙ q in
+        let ne : k ≢ r = λ same.
+            both-ways (owned (stateAt (set xs r none) k))
+            (ap (λ (j : ℕ). owned (stateAt (set xs r none) j)) same ∙ ap (λ (y : Copy). owned (y .state)) (getD-set-same xs r none none (subst (λ (j : ℕ). j < length xs) same there)))
+            own in
+        (there, owned-valid (stateAt xs k) (ap (λ (y : Copy). owned (y .state)) (sym (getD-set-other xs r k none none ne)) ∙ own))

@@ -5,6 +5,8 @@ use mathlib.Core.Path.{_≡_, refl, ap, sym, _∙_}
 use mathlib.Core.List.{List, [], _∷_, _++_}
 use lib.ListN.{length, getD, set, take, drop}
 use Rattle.std.proofs.shelf.Lists.{append-nil, append-assoc, drop-drop}
+use Rattle.std.specs.declared.option.Option.{Option}
+use Rattle.std.specs.declared.option.Option.the-variants.{Some, None}
 use Rattle.rules.specs.declared.record.Record.{Record}
 use Rattle.rules.specs.declared.tally.Tally.{Tally}
 use Rattle.rules.specs.Columns.{Column}
@@ -14,7 +16,7 @@ use Rattle.caches.specs.declared.table.Caches.{Caches}
 use Rattle.caches.specs.Views.{cachesOf}
 use Rattle.bus.specs.declared.bus.Bus.{Bus}
 use Rattle.bus.specs.Totals.{total}
-use Rattle.bus.specs.Logs.{Logged}
+use Rattle.bus.specs.Logs.{listed, Logged}
 use Rattle.bus.specs.Machines.{machineOf, Stays, Obeys, Reaches}
 use Rattle.bus.proofs.Parts.{change-is, home-stays}
 
@@ -121,3 +123,8 @@ module _ {P M A : Type 0} (lines : M → List (List ℕ)) (aside : M → A) wher
     few = omega arith;
     stays = p .stays;
   }
+
+-- a record that may have been made is one at most
+pub listed-few : (e : Option Record) → length (listed e) ≤ 1
+listed-few None = omega arith
+listed-few (Some e) = omega arith

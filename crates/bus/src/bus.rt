@@ -14,6 +14,7 @@ pub struct Bus<P, M> {
     pub tally: Tally,
 }
 
+mod accesses;
 mod drops;
 mod fills;
 mod sends;
