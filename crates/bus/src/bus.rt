@@ -15,6 +15,7 @@ pub struct Bus<P, M> {
 }
 
 mod accesses;
+mod calls;
 mod drops;
 mod fills;
 mod sends;

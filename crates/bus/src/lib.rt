@@ -1,4 +1,5 @@
 // The bus at work: the seven transactions and the accesses made of them, over caches, a memory and a tally.
+mod answer;
 mod bus;
 mod choice;
 mod counts;
@@ -6,6 +7,5 @@ mod log;
 mod states;
 mod supplies;
 
+pub use answer::Answer;
 pub use bus::Bus;
-pub use counts::count_read;
-pub use counts::count_write;

@@ -1,5 +1,6 @@
 // The records of an access: they go into places that the caller lends, oldest first.
 ghost use Prim.Native.Nat.{_<_};
+ghost use mathlib.Core.Path.{_≡_};
 ghost use lib.ListN.{length};
 ghost use Rattle.bus.specs.Logs.{single, listed, Logged};
 use rules::Record;
@@ -21,5 +22,15 @@ pub fn log_if(records: &mut [Record], made: usize, event: Option<Record>) -> usi
     match event {
         Some(event) => log(records, made, event),
         None => made,
+    }
+}
+
+/// The lines that a write back that may have been made has written.
+pub fn lines_written(event: Option<Record>) -> u32
+    ensures { λ r. ⌜ r ≡ length (listed event) ⌝ }
+{
+    match event {
+        Some(_) => 1,
+        None => 0,
     }
 }

@@ -166,8 +166,8 @@ impl<P: Protocol, M: Memory> Bus<P, M> {
         }
     }
 
-    /// A read's part of the bus: a line that is not held is read shared. Answers how many records were made.
-    pub fn fetch(&mut self, seat: usize, line: usize, records: &mut [Record]) -> usize
+    // A read's part of the bus: a line that is not held is read shared. Answers how many records were made.
+    pub(super) fn fetch(&mut self, seat: usize, line: usize, records: &mut [Record]) -> usize
         requires on { ⌜ seat < now self .caches .seats ⌝ }
         requires there { ⌜ line < length (lines (now self .memory)) ⌝ }
         requires room { ⌜ Room 15 (now self .tally) ⌝ }
@@ -181,8 +181,8 @@ impl<P: Protocol, M: Memory> Bus<P, M> {
         self.fill(seat, line, records, 0)
     }
 
-    /// A write's part of the bus, by the seat's state and its cells. Answers how many records were made.
-    pub fn send(&mut self, seat: usize, line: usize, word: usize, value: u32, records: &mut [Record]) -> usize
+    // A write's part of the bus, by the seat's state and its cells. Answers how many records were made.
+    pub(super) fn send(&mut self, seat: usize, line: usize, word: usize, value: u32, records: &mut [Record]) -> usize
         requires on { ⌜ seat < now self .caches .seats ⌝ }
         requires there { ⌜ line < length (lines (now self .memory)) ⌝ }
         requires within { ⌜ word < 4 ⌝ }

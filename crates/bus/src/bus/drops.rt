@@ -49,7 +49,7 @@ impl<P: Protocol, M: Memory> Bus<P, M> {
     }
 
     /// A seat has room for a line that it does not hold: if there was none, another line goes.
-    pub fn empty(&mut self, seat: usize, line: usize) -> Option<Record>
+    pub(super) fn empty(&mut self, seat: usize, line: usize) -> Option<Record>
         requires on { ⌜ seat < now self .caches .seats ⌝ }
         requires absent { ⌜ valid (stateAt (copiesOf line (cachesOf (now self .caches))) seat) ≡ false ⌝ }
         requires room { ⌜ Room 4 (now self .tally) ⌝ }
@@ -67,8 +67,8 @@ impl<P: Protocol, M: Memory> Bus<P, M> {
         }
     }
 
-    /// A seat drops its copy of a line, if it holds one, after a write back if it is owned.
-    pub fn flush(&mut self, seat: usize, line: usize) -> Option<Record>
+    // A seat drops its copy of a line, if it holds one, after a write back if it is owned.
+    pub(super) fn flush_line(&mut self, seat: usize, line: usize) -> Option<Record>
         requires on { ⌜ seat < now self .caches .seats ⌝ }
         requires room { ⌜ Room 4 (now self .tally) ⌝ }
         ensures { λ r. ⌜ Obeys lines aside (flushed seat line) (listed r) 4 (now (self .entry)) (now (self .exit)) ⌝ }

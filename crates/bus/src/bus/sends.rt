@@ -26,7 +26,7 @@ use rules::Supplier;
 
 impl<P: Protocol, M: Memory> Bus<P, M> {
     /// IN: the others become Invalid, and the seat's copy is Modified with the new word.
-    pub fn invalidate(&mut self, seat: usize, line: usize, word: usize, value: u32) -> Record
+    pub(super) fn invalidate(&mut self, seat: usize, line: usize, word: usize, value: u32) -> Record
         requires on { ⌜ seat < now self .caches .seats ⌝ }
         requires held { ⌜ valid (stateAt (copiesOf line (cachesOf (now self .caches))) seat) ≡ true ⌝ }
         requires within { ⌜ word < 4 ⌝ }
@@ -48,7 +48,7 @@ impl<P: Protocol, M: Memory> Bus<P, M> {
     }
 
     /// UP: the others react and take the word, and the seat's copy owns the line.
-    pub fn update(&mut self, seat: usize, line: usize, word: usize, value: u32) -> Record
+    pub(super) fn update(&mut self, seat: usize, line: usize, word: usize, value: u32) -> Record
         requires on { ⌜ seat < now self .caches .seats ⌝ }
         requires held { ⌜ valid (stateAt (copiesOf line (cachesOf (now self .caches))) seat) ≡ true ⌝ }
         requires within { ⌜ word < 4 ⌝ }
@@ -71,7 +71,7 @@ impl<P: Protocol, M: Memory> Bus<P, M> {
     }
 
     /// TU: memory and the others take the word, and the seat's copy goes by its state.
-    pub fn through_update(&mut self, seat: usize, line: usize, word: usize, value: u32) -> Record
+    pub(super) fn through_update(&mut self, seat: usize, line: usize, word: usize, value: u32) -> Record
         requires on { ⌜ seat < now self .caches .seats ⌝ }
         requires held { ⌜ valid (stateAt (copiesOf line (cachesOf (now self .caches))) seat) ≡ true ⌝ }
         requires within { ⌜ word < 4 ⌝ }
@@ -96,7 +96,7 @@ impl<P: Protocol, M: Memory> Bus<P, M> {
     }
 
     /// TI: memory takes the word, the others become Invalid, and the seat's copy, if there is one, goes by its state.
-    pub fn through_invalidate(&mut self, seat: usize, line: usize, word: usize, value: u32) -> Record
+    pub(super) fn through_invalidate(&mut self, seat: usize, line: usize, word: usize, value: u32) -> Record
         requires on { ⌜ seat < now self .caches .seats ⌝ }
         requires within { ⌜ word < 4 ⌝ }
         requires room { ⌜ Room 11 (now self .tally) ⌝ }

@@ -21,7 +21,7 @@ use rules::Supplier;
 
 impl<P: Protocol, M: Memory> Bus<P, M> {
     /// WB: memory takes the whole line from a seat that holds it.
-    pub fn write_back(&mut self, seat: usize, line: usize) -> Record
+    pub(super) fn write_back(&mut self, seat: usize, line: usize) -> Record
         requires on { ⌜ seat < now self .caches .seats ⌝ }
         requires held { ⌜ valid (stateAt (copiesOf line (cachesOf (now self .caches))) seat) ≡ true ⌝ }
         requires room { ⌜ Room 3 (now self .tally) ⌝ }

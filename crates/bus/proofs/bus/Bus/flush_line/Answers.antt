@@ -12,7 +12,7 @@ use Rattle.bus.specs.Logs.{listed}
 use Rattle.bus.specs.Machines.{machineOf}
 use Rattle.bus.proofs.Cases.{flushed-held, flushed-absent}
 use Rattle.bus.proofs.Obeying.{after, counts, named, nothing}
-use Rattle.bus.proofs.bus.Bus.flush.Needs as need
+use Rattle.bus.proofs.bus.Bus.flush_line.Needs as need
 
 pub returns-then-not-is-valid : need.returns-then-not-is-valid
 returns-then-not-is-valid g c =
