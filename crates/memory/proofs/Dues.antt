@@ -38,5 +38,6 @@ module _ (lines : List (List ℕ)) (line : ℕ) where
         same k h =
             let long = shaped line h in
             rw (set-past (getD lines line []) word value (omega arith), set-getD)
+
         past : 4 ≤ word → lines ≡ wordWritten lines line word value
         past k = ⊎-elim (same k) (line-kept (set (getD lines line []) word value)) (cases-lt line (length lines))

@@ -8,7 +8,13 @@ ghost use Rattle.refusal.specs.Refusals.{Answers, Kept};
 ghost use Rattle.memory.specs.Lines.{Lawful, lineDue, wordDue, wordWritten};
 use refusal::Refusal;
 
-/// A memory of lines of four words.
+/// How many words a line has.
+pub const WORDS_IN_LINE: usize = 4;
+
+/// The words of a line.
+pub type Line = [u32; WORDS_IN_LINE];
+
+/// A memory of lines.
 pub trait Memory {
     /// What reads answer, line by line.
     ghost lines: { Self → List (List ℕ) };
@@ -28,11 +34,11 @@ pub trait Memory {
         ensures { λ r. ⌜ r ≡ length (lines (now (self .entry))) ⌝ };
 
     /// The words of a line.
-    fn read_line(&self, line: usize) -> Result<[u32; 4], Refusal>
+    fn read_line(&self, line: usize) -> Result<Line, Refusal>
         ensures { λ r. ⌜ Answers (lineDue (lines (now (self .entry))) line) (getD (lines (now (self .entry))) line []) r ⌝ };
 
     /// Puts words into a line.
-    fn write_line(&mut self, line: usize, words: [u32; 4]) -> Result<(), Refusal>
+    fn write_line(&mut self, line: usize, words: Line) -> Result<(), Refusal>
         ensures answers { λ r. ⌜ Answers (lineDue (lines (now (self .entry))) line) tt r ⌝ }
         ensures refused { λ r. ⌜ Kept r (now (self .exit) ≡ now (self .entry)) ⌝ }
         ensures lines { λ _. ⌜ lines (now (self .exit)) ≡ set (lines (now (self .entry))) line words ⌝ }

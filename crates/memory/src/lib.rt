@@ -4,7 +4,9 @@ mod plain_memory;
 mod queue;
 mod write_buffer;
 
+pub use interface::Line;
 pub use interface::Memory;
+pub use interface::WORDS_IN_LINE;
 pub use plain_memory::Plain;
 pub use plain_memory::PlainMemory;
 pub use queue::Waiting;

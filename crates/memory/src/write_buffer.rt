@@ -1,21 +1,24 @@
 // A write buffer over any memory: up to four written lines wait before they go down.
-ghost use Prim.Native.Nat.{ℕ, _<_};
-ghost use lib.ListN.{length, getD, set};
-ghost use mathlib.Core.List.{List, []};
+ghost use Prim.Native.Nat.{_<_};
+ghost use lib.ListN.{set};
+ghost use mathlib.Core.List.{[]};
+ghost use mathlib.Core.Bool.{false};
 ghost use mathlib.Core.Path.{_≡_};
 ghost use Rattle.std.specs.Vec.{made};
 ghost use Rattle.refusal.specs.Refusals.{Answers, Kept};
-ghost use Rattle.memory.specs.Lines.{lineDue, wordDue, wordWritten};
-ghost use mathlib.Core.Bool.{true, false};
-ghost use Rattle.memory.specs.Ages.{full};
+ghost use Rattle.memory.specs.Lines.{wordsInLine, lineDue, wordDue, wordWritten};
+ghost use Rattle.memory.specs.Ages.{Apart, full, holds};
 ghost use Rattle.memory.specs.Waits.{waitingIn};
 ghost use Rattle.memory.specs.Buffers.{buffer, seen, sentFrom, come, roomMade, lineTaken, wordTaken, allSent};
+use crate::interface::Line;
 use crate::interface::Memory;
+use crate::interface::WORDS_IN_LINE;
 use crate::queue::Queue;
 use crate::queue::Waiting;
 use refusal::Refusal;
 
 /// A memory, and the written lines that have not reached it yet.
+#[derive(Drop)]
 pub struct WriteBuffer<M> {
     below: M,
     queue: Queue,
@@ -27,12 +30,16 @@ impl<M: Memory> WriteBuffer<M> {
         ensures below { λ r. ⌜ r .below ≡ below ⌝ }
         ensures waiting { λ r. ⌜ waitingIn (r .queue) ≡ [] ⌝ }
     {
-        WriteBuffer { below, queue: Queue::new() }
+        WriteBuffer {
+            below,
+            queue: Queue::new(),
+        }
     }
 
     /// The lines that wait, oldest first.
     pub fn waiting(&self) -> &[Waiting]
-        ensures { λ r. ⌜ now r ≡ waitingIn (now (self .entry) .queue) ⌝ }
+        ensures lines { λ r. ⌜ now r ≡ waitingIn (now (self .entry) .queue) ⌝ }
+        ensures apart { λ r. ⌜ Apart (now r) ⌝ }
     {
         self.queue.waiting()
     }
@@ -83,7 +90,8 @@ impl<M: Memory> WriteBuffer<M> {
     }
 
     /// A line comes as the youngest, once there is room.
-    fn enqueue(&mut self, line: usize, words: [u32; 4])
+    fn enqueue(&mut self, line: usize, words: Line)
+        requires { ⌜ holds line (waitingIn (now self .queue)) ≡ false ⌝ }
         ensures come { λ _. ⌜ buffer (M·Memory .lines) (now (self .exit)) ≡ come line words (roomMade (buffer (M·Memory .lines) (now (self .entry)))) ⌝ }
         ensures aside { λ _. ⌜ M·Memory .aside (now (self .exit) .below) ≡ M·Memory .aside (now (self .entry) .below) ⌝ }
     {
@@ -92,7 +100,7 @@ impl<M: Memory> WriteBuffer<M> {
     }
 
     /// A line is replaced where it waits, or else comes as the youngest.
-    fn take_line(&mut self, line: usize, words: [u32; 4])
+    fn take_line(&mut self, line: usize, words: Line)
         ensures taken { λ _. ⌜ buffer (M·Memory .lines) (now (self .exit)) ≡ lineTaken line words (buffer (M·Memory .lines) (now (self .entry))) ⌝ }
         ensures aside { λ _. ⌜ M·Memory .aside (now (self .exit) .below) ≡ M·Memory .aside (now (self .entry) .below) ⌝ }
     {
@@ -104,7 +112,7 @@ impl<M: Memory> WriteBuffer<M> {
 
     /// A word is changed where its line waits, or else goes down.
     fn take_word(&mut self, line: usize, word: usize, value: u32)
-        requires { ⌜ word < 4 ⌝ }
+        requires { ⌜ word < wordsInLine ⌝ }
         ensures taken { λ _. ⌜ buffer (M·Memory .lines) (now (self .exit)) ≡ wordTaken line word value (buffer (M·Memory .lines) (now (self .entry))) ⌝ }
         ensures aside { λ _. ⌜ M·Memory .aside (now (self .exit) .below) ≡ M·Memory .aside (now (self .entry) .below) ⌝ }
     {
@@ -130,7 +138,7 @@ pub impl<M: Memory> Memory for WriteBuffer<M> as BufferedMemory {
         self.below.count()
     }
 
-    fn read_line(&self, line: usize) -> Result<[u32; 4], Refusal> {
+    fn read_line(&self, line: usize) -> Result<Line, Refusal> {
         if line >= self.count() {
             return Err(Refusal::BeyondMemory);
         }
@@ -140,7 +148,7 @@ pub impl<M: Memory> Memory for WriteBuffer<M> as BufferedMemory {
         }
     }
 
-    fn write_line(&mut self, line: usize, words: [u32; 4]) -> Result<(), Refusal>
+    fn write_line(&mut self, line: usize, words: Line) -> Result<(), Refusal>
         ensures answers { λ r. ⌜ Answers (lineDue (seen (buffer (M·Memory .lines) (now (self .entry)))) line) tt r ⌝ }
         ensures refused { λ r. ⌜ Kept r (now (self .exit) ≡ now (self .entry)) ⌝ }
         ensures lines { λ _. ⌜ seen (buffer (M·Memory .lines) (now (self .exit))) ≡ set (seen (buffer (M·Memory .lines) (now (self .entry)))) line words ⌝ }
@@ -161,7 +169,7 @@ pub impl<M: Memory> Memory for WriteBuffer<M> as BufferedMemory {
         ensures aside { λ _. ⌜ M·Memory .aside (now (self .exit) .below) ≡ M·Memory .aside (now (self .entry) .below) ⌝ }
         ensures taken { λ r. ⌜ made r (λ _. buffer (M·Memory .lines) (now (self .exit)) ≡ wordTaken line word value (buffer (M·Memory .lines) (now (self .entry)))) ⌝ }
     {
-        if line >= self.count() || word >= 4 {
+        if line >= self.count() || word >= WORDS_IN_LINE {
             return Err(Refusal::BeyondMemory);
         }
         self.take_word(line, word, value);

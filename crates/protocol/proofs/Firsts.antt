@@ -14,7 +14,7 @@ use Rattle.std.proofs.shelf.Tests.{cond-true, cond-false, eq-eqb, both-ways, ca
 use Rattle.std.proofs.shelf.Lists.{getD-past}
 use Rattle.protocol.specs.Cells.{allowed, cellSets}
 use Rattle.refusal.specs.Refusals.{plain}
-use Rattle.protocol.specs.Tables.{firstOutside, outside, outsideRefusal, tableRefusal, EachKeeps, FirstFault}
+use Rattle.protocol.specs.Tables.{firstOutside, outside, outsideRefusal, tableRefusal, EachKeeps, Keeps, FirstFault}
 
 -- the cells before and at the next one, counted from one place further on
 shifted : (k i : ℕ) (b : ℕ) → allowed (k + suc i) b ≡ allowed (suc k + i) b
@@ -48,9 +48,10 @@ from-zero : (i b : ℕ) → allowed (0 + i) b ≡ allowed i b
 from-zero i b = ap (λ (n : ℕ). allowed n b) (zero-add i)
 
 -- sixteen lawful cells are not refused
-pub refusal-none : (bs : List ℕ) → length bs ≡ 16 → EachKeeps bs → tableRefusal bs ≡ None
-refusal-none bs n h =
-    let e : firstOutside 0 bs ≡ None = all-none 0 bs (λ i l. from-zero i (getD bs i 0) ∙ h i (omega arith)) in
+pub refusal-none : (bs : List ℕ) → Keeps bs → tableRefusal bs ≡ None
+refusal-none bs k =
+    let n : length bs ≡ 16 = k .sixteen in
+    let e : firstOutside 0 bs ≡ None = all-none 0 bs (λ i l. from-zero i (getD bs i 0) ∙ k .each i (omega arith)) in
     cond-true (eqb (length bs) 16) (outsideRefusal (firstOutside 0 bs)) (Some (plain 3)) (eq-eqb (length bs) 16 n) ∙ ap outsideRefusal e
 
 -- the first cell outside its set is the one that is told

@@ -1,7 +1,8 @@
 -- The cells of a protocol table, and the bus laws: the set that each cell lies in.
 --
 -- cellSets   the sets, cell 0 first
--- allowed    a byte keeps the law of a cell; above the last cell only byte 0 does
+-- cellSet    one of them; above the last cell only byte 0 is in it
+-- allowed    a byte lies in a cell's set
 -- among      a number stands in a list
 -- Lawful     a protocol, as what it answers for a seat and a cell, keeps the law throughout
 -- FilledState  the states that a copy filled alone may have
@@ -42,9 +43,13 @@ cellSets =
     ∷ codes "IS"  -- 15: write through with update heard at Shared
     ∷ []
 
--- byte b keeps the law of cell k; above the last cell a protocol answers 0
+-- the set of cell k; above the last cell a protocol answers 0
+abbrev pub cellSet : ℕ → List ℕ
+cellSet k = getD cellSets k (0 ∷ [])
+
+-- byte b keeps the law of cell k
 abbrev pub allowed : ℕ → ℕ → Bool
-allowed k b = among b (getD cellSets k (0 ∷ []))
+allowed k b = among b (cellSet k)
 
 -- each seat's answer keeps the law at each cell
 abbrev pub Lawful : (ℕ → ℕ → ℕ) → Type 0

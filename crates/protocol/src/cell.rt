@@ -1,7 +1,7 @@
 // The sixteen cells of a protocol table.
 ghost use mathlib.Core.Path.{_≡_};
 ghost use Prim.Native.Nat.{_<_};
-ghost use Rattle.protocol.specs.Cells.{allowed};
+ghost use Rattle.protocol.specs.Cells.{allowed, cellSet};
 ghost use Rattle.protocol.specs.CellNames.{cellNumber, cellAt, cellUse};
 
 /// What a cell of a protocol table decides.
@@ -98,6 +98,28 @@ impl Cell {
             Cell::UpdateHeardAtShared => "UP heard at Shared",
             Cell::UpdateHeardAtOwned => "UP heard at Owned",
             Cell::ThroughUpdateHeardAtShared => "TU heard at Shared",
+        }
+    }
+
+    /// The bytes that the cell may hold.
+    pub fn set(self) -> &'static str
+        ensures { λ r. ⌜ now r ≡ cellSet (cellNumber self) ⌝ }
+    {
+        match self {
+            Cell::WriteAtInvalid => "126",
+            Cell::WriteAtShared | Cell::WriteAtOwned => "3456",
+            Cell::FilledAlone
+            | Cell::ThroughUpdatedAloneAtShared
+            | Cell::ThroughInvalidatedAtShared => "SE",
+            Cell::UpdatedAlone
+            | Cell::ThroughUpdatedAloneAtOwned
+            | Cell::ThroughInvalidatedAtOwned => "OM",
+            Cell::ReadHeardAtOwned | Cell::ReadHeardAtModified => "ISO",
+            Cell::ReadHeardAtShared
+            | Cell::ReadHeardAtExclusive
+            | Cell::UpdateHeardAtShared
+            | Cell::UpdateHeardAtOwned
+            | Cell::ThroughUpdateHeardAtShared => "IS",
         }
     }
 

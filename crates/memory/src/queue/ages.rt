@@ -1,13 +1,16 @@
 // What is done with the waiting lines: each keeps its place, the oldest leaves first, a new one comes last.
-ghost use Prim.Native.Nat.{ℕ, _+_, _≤_, _<_};
+ghost use Prim.Native.Nat.{_<_};
 ghost use lib.ListN.{length, getD, set};
-ghost use mathlib.Core.List.{List, [], _∷_, _++_};
-ghost use mathlib.Core.Bool.{Bool, true, false};
+ghost use mathlib.Core.List.{[], _∷_, _++_};
+ghost use mathlib.Core.Bool.{false};
 ghost use mathlib.Core.Path.{_≡_};
-ghost use lib.Dec.{ltb};
 ghost use Rattle.std.specs.Options.{Cases as BySome};
-ghost use Rattle.memory.specs.Ages.{blank, full, holds, Newest, waits, withWords};
+ghost use Rattle.memory.specs.Ages.{blank, Apart, full, holds, Newest, waits, withWords};
+ghost use Rattle.memory.specs.Lines.{wordsInLine};
 ghost use Rattle.memory.specs.Waits.{waitingIn};
+use crate::interface::Line;
+use crate::interface::WORDS_IN_LINE;
+use crate::queue::PLACES;
 use crate::queue::Queue;
 use crate::queue::Waiting;
 
@@ -16,12 +19,19 @@ impl Queue {
     pub fn new() -> Queue
         ensures { λ r. ⌜ waitingIn r ≡ [] ⌝ }
     {
-        Queue { table: [Waiting { line: 0, words: [0; 4] }; 4], count: 0 }
+        Queue {
+            table: [Waiting {
+                line: 0,
+                words: [0; WORDS_IN_LINE],
+            }; PLACES],
+            count: 0,
+        }
     }
 
     /// The waiting lines, oldest first.
     pub fn waiting(&self) -> &[Waiting]
-        ensures { λ r. ⌜ now r ≡ waitingIn (now (self .entry)) ⌝ }
+        ensures lines { λ r. ⌜ now r ≡ waitingIn (now (self .entry)) ⌝ }
+        ensures apart { λ r. ⌜ Apart (now r) ⌝ }
     {
         &self.table[0..self.count]
     }
@@ -30,7 +40,7 @@ impl Queue {
     pub fn is_full(&self) -> bool
         ensures { λ r. ⌜ r ≡ full (waitingIn (now (self .entry))) ⌝ }
     {
-        self.count == 4
+        self.count == PLACES
     }
 
     /// Where a line waits: the newest such place.
@@ -46,7 +56,7 @@ impl Queue {
     }
 
     /// The words of the line at a place.
-    pub fn words(&self, place: usize) -> [u32; 4]
+    pub fn words(&self, place: usize) -> Line
         requires { ⌜ place < length (waitingIn (now self)) ⌝ }
         ensures { λ r. ⌜ r ≡ getD (waitingIn (now (self .entry))) place blank .words ⌝ }
     {
@@ -54,7 +64,7 @@ impl Queue {
     }
 
     /// Puts words into the line at a place.
-    pub fn replace(&mut self, place: usize, words: [u32; 4])
+    pub fn replace(&mut self, place: usize, words: Line)
         requires { ⌜ place < length (waitingIn (now self)) ⌝ }
         ensures { λ _. ⌜ waitingIn (now (self .exit)) ≡ set (waitingIn (now (self .entry))) place (withWords (λ _. words) (getD (waitingIn (now (self .entry))) place blank)) ⌝ }
     {
@@ -64,15 +74,16 @@ impl Queue {
     /// Puts a value into one word of the line at a place.
     pub fn change(&mut self, place: usize, word: usize, value: u32)
         requires within { ⌜ place < length (waitingIn (now self)) ⌝ }
-        requires short { ⌜ word < 4 ⌝ }
+        requires short { ⌜ word < wordsInLine ⌝ }
         ensures { λ _. ⌜ waitingIn (now (self .exit)) ≡ set (waitingIn (now (self .entry))) place (withWords (λ words. set words word value) (getD (waitingIn (now (self .entry))) place blank)) ⌝ }
     {
         self.table[place].words[word] = value;
     }
 
     /// A line comes, as the youngest.
-    pub fn push(&mut self, line: usize, words: [u32; 4])
-        requires { ⌜ full (waitingIn (now self)) ≡ false ⌝ }
+    pub fn push(&mut self, line: usize, words: Line)
+        requires room { ⌜ full (waitingIn (now self)) ≡ false ⌝ }
+        requires other { ⌜ holds line (waitingIn (now self)) ≡ false ⌝ }
         ensures { λ _. ⌜ waitingIn (now (self .exit)) ≡ waitingIn (now (self .entry)) ++ waits line words ∷ [] ⌝ }
     {
         self.table[self.count] = Waiting { line, words };

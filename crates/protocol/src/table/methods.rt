@@ -7,7 +7,7 @@ ghost use Rattle.std.specs.Results.{isOk};
 ghost use Rattle.refusal.specs.Refusals.{Answered};
 ghost use Rattle.protocol.specs.Cells.{allowed};
 ghost use Rattle.std.specs.Options.{Cases};
-ghost use Rattle.protocol.specs.Tables.{tableRefusal, EachKeeps, Keeps, FirstFault, FaultTold};
+ghost use Rattle.protocol.specs.Tables.{tableRefusal, Keeps, FirstFault, FaultTold};
 use super::Table;
 use crate::cell::Cell;
 use crate::interface::Protocol;
@@ -55,7 +55,7 @@ fn allows(cell: u8, byte: u8) -> bool
 // The first cell that lies outside its set.
 fn first_outside(bytes: &[u8]) -> Option<u8>
     requires { ⌜ length (now bytes) ≡ 16 ⌝ }
-    ensures { λ r. ⌜ Cases r (EachKeeps (now (bytes .entry))) (FirstFault (now (bytes .entry))) ⌝ }
+    ensures { λ r. ⌜ Cases r (Keeps (now (bytes .entry))) (FirstFault (now (bytes .entry))) ⌝ }
 {
     for cell in 0..Cell::COUNT {
         if !allows(cell, bytes[cell as usize]) {

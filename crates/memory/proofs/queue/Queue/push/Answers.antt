@@ -6,7 +6,7 @@ use lib.ListN.{length, take}
 use Rattle.std.proofs.shelf.Tests.{eqb-false}
 use Rattle.std.proofs.shelf.Lists.{take-more-set, length-set}
 use Rattle.memory.specs.Ages.{waits}
-use Rattle.memory.proofs.Tables.{front-long, wide-set}
+use Rattle.memory.proofs.Tables.{front-long, apart-come, wide-set}
 use Rattle.memory.proofs.queue.Queue.push.Needs as need
 
 pub ghost-self : need.ghost-self
@@ -15,9 +15,10 @@ ghost-self c =
     let w = q .within in
     let p = q .places in
     let long = front-long (q .table) (q .count) (omega arith) in
-    let room = eqb-false (length (take (q .count) (q .table))) 4 (c .pre) in
+    let room = eqb-false (length (take (q .count) (q .table))) 4 (c .pre .room) in
     let new : length (c .args .words) ≡ 4 = search needs in
-    (omega arith, (length-set (q .table) (q .count) (waits (c .args .line) (c .args .words)) ∙ p, (wide-set (q .table) (q .count) (waits (c .args .line) (c .args .words)) p (q .wide) new, tt)))
+    let x = waits (c .args .line) (c .args .words) in
+    (omega arith, (length-set (q .table) (q .count) x ∙ p, (apart-come (q .table) (q .count) (omega arith) (q .apart) x (omega arith) (c .pre .other), (wide-set (q .table) (q .count) x p (q .wide) new, tt))))
 
 pub returns : need.returns
 returns c =
@@ -25,5 +26,5 @@ returns c =
     let w = q .within in
     let p = q .places in
     let long = front-long (q .table) (q .count) (omega arith) in
-    let room = eqb-false (length (take (q .count) (q .table))) 4 (c .pre) in
+    let room = eqb-false (length (take (q .count) (q .table))) 4 (c .pre .room) in
     take-more-set (q .table) (q .count) (waits (c .args .line) (c .args .words)) (omega arith)

@@ -1,7 +1,5 @@
-use mathlib.Core.Path.{sym, _∙_}
-use Prim.Native.Nat.{_≤_, _<_}
 use native.Mathlib.Omega.{arith}
-use lib.ListN.{length}
+use borrow.Author.Needs.{needs}
 use Rattle.memory.specs.Buffers.{buffer, seen}
 use Rattle.memory.specs.Waits.{waitingIn}
 use Rattle.memory.proofs.Buffered.{read-below}
@@ -17,10 +15,8 @@ returns-then-line-count g c =
 pub returns-in-Some : need.returns-in-Some
 returns-in-Some g c =
     let b = c .args .self .now in
-    let n = c .count .ensures in
     let m = length-over (waitingIn (b .queue)) (g .M·Memory .lines (b .below)) in
-    let found = over-newest (c .args .line) (waitingIn (b .queue)) (c .in-Some .place) (g .M·Memory .lines (b .below)) (c .in-Some .ensures tt) (omega arith) in
-    (line-within (seen (buffer (g .M·Memory .lines) b)) (c .args .line) (omega arith), c .words .ensures ∙ sym found)
+    search (needs, line-within, over-newest)
 
 pub returns-in-None : need.returns-in-None
 returns-in-None g c =

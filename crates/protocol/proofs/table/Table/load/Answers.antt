@@ -4,7 +4,6 @@ use mathlib.Core.Path.{_≡_, refl, sym, subst}
 use mathlib.Core.Logic.{inr}
 use mathlib.Core.List.{List}
 use mathlib.Core.Bool.{true, false}
-use lib.ListN.{length}
 use native.Mathlib.Omega.{arith}
 use borrow.Author.Needs.{needs}
 use Rattle.protocol.specs.Tables.{EachKeeps}
@@ -14,7 +13,7 @@ use Rattle.protocol.proofs.table.Table.load.Needs as need
 pub ghost-result : need.ghost-result
 ghost-result c = (
   table-lawful (c .copy-from-slice .last .self) (c .copy-from-slice .ensures .len)
-      (subst (λ (bs : List ℕ). EachKeeps bs) (sym (c .copy-from-slice .ensures .after)) (c .in-None .ensures tt)),
+      (subst (λ (bs : List ℕ). EachKeeps bs) (sym (c .copy-from-slice .ensures .after)) (c .in-None .ensures tt .each)),
   tt,
 )
 
@@ -27,11 +26,9 @@ returns-in-Some c = record {
 }
 
 pub returns-in-None : need.returns-in-None
-returns-in-None c =
-    let n : length (c .args .bytes .now) ≡ 16 = omega arith in
-    record {
-      answer = (refusal-none (c .args .bytes .now) n (c .in-None .ensures tt), c .copy-from-slice .ensures .after);
-      accepted = λ e. record { sixteen = n; each = c .in-None .ensures tt };
-      lawful = λ k. refl;
-      refused = tt;
-    }
+returns-in-None c = record
+  { answer = (refusal-none (c .args .bytes .now) (c .in-None .ensures tt), c .copy-from-slice .ensures .after)
+  ; accepted = λ e. c .in-None .ensures tt
+  ; lawful = λ k. refl
+  ; refused = tt
+  }
