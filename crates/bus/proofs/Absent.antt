@@ -34,10 +34,10 @@ look-other c n m x ne =
     let same : getD (set c i ss) i [] ≡ ss → find m (getD (set c i ss) i []) ≡ find m (getD c i []) = λ e. ap (find m) e ∙ find-put-other n x m ne (getD c i []) in
     ap (λ (k : ℕ). find m (getD (set c i ss) (m % k) [])) (length-set c i ss)
     ∙ ⊎-elim
-      (λ e. rw e
-        (⊎-elim (λ l. same (getD-set-same c i ss [] l)) (λ l. ap (λ (d : Cache). find m (getD d i [])) (set-past c i ss l)) (cases-lt i (length c))))
-      (λ e. ap (find m) (getD-set-other c i (m % length c) ss [] e))
-      (cases-eq (m % length c) i)
+    (λ e. rw e
+    (⊎-elim (λ l. same (getD-set-same c i ss [] l)) (λ l. ap (λ (d : Cache). find m (getD d i [])) (set-past c i ss l)) (cases-lt i (length c))))
+    (λ e. ap (find m) (getD-set-other c i (m % length c) ss [] e))
+    (cases-eq (m % length c) i)
 
 module _ (n r : ℕ) (cs : List Cache) (absent : valid (stateAt (copiesOf n cs) r) ≡ false) where
   pub copy-none : getD (copiesOf n cs) r none ≡ none
@@ -69,10 +69,10 @@ stays-absent v n r cs cs′ e held absent =
     let d = set cs r (put v (getD cs r []) none) in
     let is : cs′ ≡ d = e ∙ putEach-one v r cs none in
     let same : look (getD d r []) n ≡ look (getD cs r []) n =
-        ⊎-elim
-        (λ l. ap (λ (c : Cache). look c n) (getD-set-same cs r (put v (getD cs r []) none) [] l) ∙ look-other (getD cs r []) v n none ne)
-        (λ l. ap (λ (x : List Cache). look (getD x r []) n) (set-past cs r (put v (getD cs r []) none) l))
-        (cases-lt r (length cs)) in
+    ⊎-elim
+    (λ l. ap (λ (c : Cache). look c n) (getD-set-same cs r (put v (getD cs r []) none) [] l) ∙ look-other (getD cs r []) v n none ne)
+    (λ l. ap (λ (x : List Cache). look (getD x r []) n) (set-past cs r (put v (getD cs r []) none) l))
+    (cases-lt r (length cs)) in
     ap (λ (x : List Cache). valid (stateAt (copiesOf n x) r)) is
     ∙ ap (λ (x : Copy). valid (x .state)) (column-at n d r ∙ same ∙ sym (column-at n cs r))
     ∙ absent
@@ -96,7 +96,7 @@ owner-there xs r k e = owner-at xs r k (owner-owns (set xs r none) (Some k) (sym
         let there : k < length xs = omega (arith, length-set xs r none) in
         let own : owned (stateAt (set xs r none) k) ≡ true = ap (λ (j : ℕ). owned (stateAt (set xs r none) j)) is ∙ q in
         let ne : k ≢ r = λ same.
-            both-ways (owned (stateAt (set xs r none) k))
-            (ap (λ (j : ℕ). owned (stateAt (set xs r none) j)) same ∙ ap (λ (y : Copy). owned (y .state)) (getD-set-same xs r none none (subst (λ (j : ℕ). j < length xs) same there)))
-            own in
+        both-ways (owned (stateAt (set xs r none) k))
+        (ap (λ (j : ℕ). owned (stateAt (set xs r none) j)) same ∙ ap (λ (y : Copy). owned (y .state)) (getD-set-same xs r none none (subst (λ (j : ℕ). j < length xs) same there)))
+        own in
         (there, owned-valid (stateAt xs k) (ap (λ (y : Copy). owned (y .state)) (sym (getD-set-other xs r k none none ne)) ∙ own))

@@ -4,7 +4,7 @@ use native.Mathlib.Omega.{arith}
 use mathlib.Core.Path.{_≡_, refl, ap, sym, _∙_}
 use mathlib.Core.List.{List, [], _∷_, _++_}
 use lib.ListN.{length, getD, set, take, drop}
-use Rattle.std.proofs.shelf.Lists.{append-nil, append-assoc, drop-drop}
+use Rattle.std.proofs.shelf.Lists.{append-nil, append-assoc, drop-drop, length-append}
 use Rattle.std.specs.declared.option.Option.{Option}
 use Rattle.std.specs.declared.option.Option.the-variants.{Some, None}
 use Rattle.rules.specs.declared.record.Record.{Record}
@@ -17,7 +17,7 @@ use Rattle.caches.specs.Views.{cachesOf}
 use Rattle.bus.specs.declared.bus.Bus.{Bus}
 use Rattle.bus.specs.Totals.{total}
 use Rattle.bus.specs.Logs.{listed, Logged}
-use Rattle.bus.specs.Machines.{machineOf, Stays, Obeys, Reaches}
+use Rattle.bus.specs.Machines.{machineOf, Stays, Obeys, Reaches, Settles}
 use Rattle.bus.proofs.Parts.{change-is, home-stays}
 
 -- places that stay from one place on stay from any later one on
@@ -80,7 +80,7 @@ module _ {P M A : Type 0} (lines : M → List (List ℕ)) (aside : M → A) wher
     machine = λ es.
         ap (λ (x : List Record). machineOf lines x (record { protocol = b .protocol; memory = b .memory; caches = cs; tally = b .tally })) (append-nil es)
         ∙ change-is (cachesOf (b .caches)) (lines (b .memory)) (b .tally) n f (cachesOf cs) (lines (b .memory)) e
-          (home-stays (lines (b .memory)) n ∙ ap (set (lines (b .memory)) n) (sym h)) es;
+        (home-stays (lines (b .memory)) n ∙ ap (set (lines (b .memory)) n) (sym h)) es;
     stays = record { grown = omega arith; protocol = refl; apart = refl; count = refl; seats = s; sets = t };
   }
 
@@ -123,6 +123,22 @@ module _ {P M A : Type 0} (lines : M → List (List ℕ)) (aside : M → A) wher
     few = omega arith;
     stays = p .stays;
   }
+
+  -- a rule that writes back so many lines, after another
+  pub settles-after : {f h : Machine → Machine} {w w′ k k′ : ℕ} {a b c : Bus P M} → Settles lines aside f w k a b → Settles lines aside h w′ k′ b c → Settles lines aside (λ m. h (f m)) (w + w′) (k + k′) a c
+  settles-after p q = record {
+    told = p .told ++ q .told;
+    wrote = omega (arith, p .wrote, q .wrote, length-append (p .told) (q .told));
+    obeys = after (p .obeys) (q .obeys);
+  }
+
+  -- the same under another name
+  pub settles-named : {f h : Machine → Machine} {w k k′ : ℕ} {a b : Bus P M} → Settles lines aside f w k a b → ((es : List Record) → f (machineOf lines es a) ≡ h (machineOf lines es a)) → k ≤ k′ → Settles lines aside h w k′ a b
+  settles-named p e l = record { told = p .told; wrote = p .wrote; obeys = named (p .obeys) e refl l }
+
+  -- no copy dropped yet
+  pub settles-none : (b : Bus P M) → Settles lines aside (λ m. m) 0 0 b b
+  settles-none b = record { told = []; wrote = refl; obeys = nothing b }
 
 -- a record that may have been made is one at most
 pub listed-few : (e : Option Record) → length (listed e) ≤ 1

@@ -1,11 +1,10 @@
 -- A seat's request: the other seats react, then the seat's own copy is put.
-use Prim.Native.Nat.{ℕ, _<_, _≤_, min}
+use Prim.Native.Nat.{ℕ, _<_}
 use native.Mathlib.Omega.{arith}
-use mathlib.Core.Bool.{true, false}
-use mathlib.Core.Path.{_≡_, refl, ap, sym, _∙_}
-use mathlib.Core.List.{List, [], _∷_, map}
-use lib.ListN.{length, getD, set, take}
-use Rattle.std.proofs.shelf.Lists.{length-map, length-take-le, getD-set-same}
+use mathlib.Core.Path.{_≡_, ap, sym, _∙_}
+use mathlib.Core.List.{List, []}
+use lib.ListN.{length, getD, set}
+use Rattle.std.proofs.shelf.Lists.{length-map, getD-set-same}
 use Rattle.protocol.specs.declared.state.State.{State}
 use Rattle.rules.specs.Columns.{Copy, none}
 use Rattle.rules.specs.Transactions.{hear}
@@ -13,17 +12,11 @@ use Rattle.rules.specs.Caches.{Cache, look, room}
 use Rattle.rules.specs.Machines.{copiesOf, putEach}
 use Rattle.rules.proofs.Seats.{length-hear}
 use Rattle.caches.specs.declared.table.Caches.{Caches}
-use Rattle.caches.specs.Views.{cachesOf, rowView}
+use Rattle.caches.specs.Views.{cachesOf}
+use Rattle.caches.proofs.Places.{caches-long}
 use Rattle.bus.proofs.Turns.{own-stays, then-own}
 
--- as many caches as there are seats
-pub caches-long : (s : Caches) → length (cachesOf s) ≡ s .seats
-unfolding cachesOf
-caches-long s =
-    let l : s .seats ≤ length (s .table) = omega (arith, s .rows, s .few) in
-    length-map (take (s .seats) (s .table)) (rowView (s .sets)) ∙ length-take-le (s .seats) (s .table) l
-
--- and as many copies of a line
+-- as many copies of a line as there are seats
 pub copies-long : (s : Caches) (n : ℕ) → length (copiesOf n (cachesOf s)) ≡ s .seats
 copies-long s n = length-map (cachesOf s) (λ c. look c n) ∙ caches-long s
 

@@ -4,6 +4,7 @@
 -- Stays       what every method leaves: the protocol, the sizes, memory's count and what it keeps aside; and how far the tally may grow
 -- Obeys       a bus afterwards is what a rule makes of the bus before, and tells these records
 -- Reaches     the same, of a method that puts the records into the places lent to it
+-- Settles     the same, of a method that keeps no records and answers the lines written
 -- lines, aside   the meaning of the memory: what reads answer, and what no call changes
 -- most        by how much the sum of the tally's numbers has grown at most
 use Prim.Native.Nat.{ℕ, _+_, _≤_}
@@ -42,3 +43,9 @@ pub record Reaches {P M A : Type 0} (lines : M → List (List ℕ)) (aside : M �
   pub onward : made ≤ made′
   pub few : made′ ≤ made + more
   pub stays : Stays lines aside most before after
+
+-- the bus after is what the rule makes of the bus before, and the rule writes back so many lines: one for each record that it tells
+pub record Settles {P M A : Type 0} (lines : M → List (List ℕ)) (aside : M → A) (rule : Machine → Machine) (written most : ℕ) (before after : Bus P M) : Type 0 where
+  pub told : List Record
+  pub wrote : written ≡ length told
+  pub obeys : Obeys lines aside rule told most before after

@@ -19,4 +19,5 @@ mod calls;
 mod drops;
 mod fills;
 mod sends;
+mod settling;
 mod transactions;

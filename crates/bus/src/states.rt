@@ -19,18 +19,31 @@ pub fn after_read<P: Protocol>(protocol: &P, seat: usize, alone: bool) -> State
     ensures value { λ r. ⌜ r ≡ afterRS (cells (now (protocol .entry)) seat) alone ⌝ }
     ensures held { λ r. ⌜ valid r ≡ true ⌝ }
 {
-    if alone { filled_alone(protocol, seat) } else { State::Shared }
+    if alone {
+        filled_alone(protocol, seat)
+    } else {
+        State::Shared
+    }
 }
 
 /// After an update: cell 4 when alone.
 pub fn after_update<P: Protocol>(protocol: &P, seat: usize, alone: bool) -> State
     ensures { λ r. ⌜ r ≡ afterUP (cells (now (protocol .entry)) seat) alone ⌝ }
 {
-    if alone { cell_state(protocol, seat, 4) } else { State::Owned }
+    if alone {
+        cell_state(protocol, seat, 4)
+    } else {
+        State::Owned
+    }
 }
 
 /// After a write through with update: cell 5 from Shared and cell 6 from Owned, when alone.
-pub fn after_through_update<P: Protocol>(protocol: &P, seat: usize, alone: bool, state: State) -> State
+pub fn after_through_update<P: Protocol>(
+    protocol: &P,
+    seat: usize,
+    alone: bool,
+    state: State,
+) -> State
     ensures { λ r. ⌜ r ≡ afterTU (cells (now (protocol .entry)) seat) alone state ⌝ }
 {
     match (state, alone) {
@@ -54,7 +67,14 @@ pub fn after_through_invalidate<P: Protocol>(protocol: &P, seat: usize, state: S
 }
 
 /// After a write through with invalidate the seat's copy, if there is one, has the word, and goes by its state.
-pub fn keep_through<P: Protocol>(caches: &mut Caches, protocol: &P, seat: usize, line: usize, word: usize, value: u32)
+pub fn keep_through<P: Protocol>(
+    caches: &mut Caches,
+    protocol: &P,
+    seat: usize,
+    line: usize,
+    word: usize,
+    value: u32,
+)
     requires on { ⌜ seat < now caches .seats ⌝ }
     requires within { ⌜ word < 4 ⌝ }
     ensures caches { λ _. ⌜ cachesOf (now (caches .exit)) ≡ putEach line (cachesOf (now (caches .entry))) (set (copiesOf line (cachesOf (now (caches .entry)))) seat (kept (afterTI (cells (now (protocol .entry)) seat) (stateAt (copiesOf line (cachesOf (now (caches .entry)))) seat)) (set (wordsAt (copiesOf line (cachesOf (now (caches .entry)))) seat) word value))) ⌝ }
@@ -63,6 +83,12 @@ pub fn keep_through<P: Protocol>(caches: &mut Caches, protocol: &P, seat: usize,
 {
     let state = caches.state(seat, line);
     if state.is_valid() {
-        caches.write(seat, line, after_through_invalidate(protocol, seat, state), word, value);
+        caches.write(
+            seat,
+            line,
+            after_through_invalidate(protocol, seat, state),
+            word,
+            value,
+        );
     }
 }

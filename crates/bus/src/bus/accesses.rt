@@ -38,7 +38,15 @@ impl<P: Protocol, M: Memory> Bus<P, M> {
     }
 
     // Through with invalidate; an owner in another seat writes back first.
-    fn write_through(&mut self, seat: usize, line: usize, word: usize, value: u32, records: &mut [Record], made: usize) -> usize
+    fn write_through(
+        &mut self,
+        seat: usize,
+        line: usize,
+        word: usize,
+        value: u32,
+        records: &mut [Record],
+        made: usize,
+    ) -> usize
         requires on { ⌜ seat < now self .caches .seats ⌝ }
         requires within { ⌜ word < 4 ⌝ }
         requires room { ⌜ Room 14 (now self .tally) ⌝ }
@@ -78,7 +86,15 @@ impl<P: Protocol, M: Memory> Bus<P, M> {
     }
 
     // A write of a held line, by the transaction that its cell names; an exclusive copy uses no bus.
-    fn write_held(&mut self, seat: usize, line: usize, word: usize, value: u32, records: &mut [Record], made: usize) -> usize
+    fn write_held(
+        &mut self,
+        seat: usize,
+        line: usize,
+        word: usize,
+        value: u32,
+        records: &mut [Record],
+        made: usize,
+    ) -> usize
         requires on { ⌜ seat < now self .caches .seats ⌝ }
         requires held { ⌜ valid (stateAt (copiesOf line (cachesOf (now self .caches))) seat) ≡ true ⌝ }
         requires within { ⌜ word < 4 ⌝ }
@@ -114,7 +130,15 @@ impl<P: Protocol, M: Memory> Bus<P, M> {
     }
 
     // A line is brought in with the new word, and the other copies go.
-    fn fill_written(&mut self, seat: usize, line: usize, word: usize, value: u32, records: &mut [Record], made: usize) -> usize
+    fn fill_written(
+        &mut self,
+        seat: usize,
+        line: usize,
+        word: usize,
+        value: u32,
+        records: &mut [Record],
+        made: usize,
+    ) -> usize
         requires on { ⌜ seat < now self .caches .seats ⌝ }
         requires there { ⌜ line < length (lines (now self .memory)) ⌝ }
         requires absent { ⌜ valid (stateAt (copiesOf line (cachesOf (now self .caches))) seat) ≡ false ⌝ }
@@ -130,7 +154,15 @@ impl<P: Protocol, M: Memory> Bus<P, M> {
     }
 
     // A line is read shared, and the write goes on as from Shared or Exclusive.
-    fn fill_then_write(&mut self, seat: usize, line: usize, word: usize, value: u32, records: &mut [Record], made: usize) -> usize
+    fn fill_then_write(
+        &mut self,
+        seat: usize,
+        line: usize,
+        word: usize,
+        value: u32,
+        records: &mut [Record],
+        made: usize,
+    ) -> usize
         requires on { ⌜ seat < now self .caches .seats ⌝ }
         requires there { ⌜ line < length (lines (now self .memory)) ⌝ }
         requires absent { ⌜ valid (stateAt (copiesOf line (cachesOf (now self .caches))) seat) ≡ false ⌝ }
@@ -144,7 +176,15 @@ impl<P: Protocol, M: Memory> Bus<P, M> {
     }
 
     // A write at Invalid, by the transaction that cell 0 names.
-    fn write_missed(&mut self, seat: usize, line: usize, word: usize, value: u32, records: &mut [Record], made: usize) -> usize
+    fn write_missed(
+        &mut self,
+        seat: usize,
+        line: usize,
+        word: usize,
+        value: u32,
+        records: &mut [Record],
+        made: usize,
+    ) -> usize
         requires on { ⌜ seat < now self .caches .seats ⌝ }
         requires there { ⌜ line < length (lines (now self .memory)) ⌝ }
         requires absent { ⌜ valid (stateAt (copiesOf line (cachesOf (now self .caches))) seat) ≡ false ⌝ }
@@ -154,9 +194,30 @@ impl<P: Protocol, M: Memory> Bus<P, M> {
         ensures { λ r. ⌜ Reaches lines aside (missedBy (cells (now (self .entry) .protocol)) seat line word value (digitTransaction (cells (now (self .entry) .protocol) seat 0))) 4 29 made r (now (records .entry)) (now (records .exit)) (now (self .entry)) (now (self .exit)) ⌝ }
     {
         match choose(&self.protocol, seat, State::Invalid) {
-            Some(Transaction::ReadShared) => self.fill_then_write(seat, line, word, value, records, made),
-            Some(Transaction::ReadInvalidate) => self.fill_written(seat, line, word, value, records, made),
-            Some(Transaction::ThroughInvalidate) => self.write_through(seat, line, word, value, records, made),
+            Some(Transaction::ReadShared) => self.fill_then_write(
+                seat,
+                line,
+                word,
+                value,
+                records,
+                made,
+            ),
+            Some(Transaction::ReadInvalidate) => self.fill_written(
+                seat,
+                line,
+                word,
+                value,
+                records,
+                made,
+            ),
+            Some(Transaction::ThroughInvalidate) => self.write_through(
+                seat,
+                line,
+                word,
+                value,
+                records,
+                made,
+            ),
             // The law names no other transaction at Invalid.
             Some(Transaction::Invalidate) => made,
             Some(Transaction::Update) => made,
@@ -182,7 +243,14 @@ impl<P: Protocol, M: Memory> Bus<P, M> {
     }
 
     // A write's part of the bus, by the seat's state and its cells. Answers how many records were made.
-    pub(super) fn send(&mut self, seat: usize, line: usize, word: usize, value: u32, records: &mut [Record]) -> usize
+    pub(super) fn send(
+        &mut self,
+        seat: usize,
+        line: usize,
+        word: usize,
+        value: u32,
+        records: &mut [Record],
+    ) -> usize
         requires on { ⌜ seat < now self .caches .seats ⌝ }
         requires there { ⌜ line < length (lines (now self .memory)) ⌝ }
         requires within { ⌜ word < 4 ⌝ }

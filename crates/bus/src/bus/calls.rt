@@ -38,7 +38,14 @@ impl<P: Protocol, M: Memory> Bus<P, M> {
     }
 
     /// A seat writes a word, by its state and its cells.
-    pub fn write(&mut self, seat: usize, line: usize, word: usize, value: u32, records: &mut [Record]) -> Answer
+    pub fn write(
+        &mut self,
+        seat: usize,
+        line: usize,
+        word: usize,
+        value: u32,
+        records: &mut [Record],
+    ) -> Answer
         requires on { ⌜ seat < now self .caches .seats ⌝ }
         requires there { ⌜ line < length (lines (now self .memory)) ⌝ }
         requires within { ⌜ word < 4 ⌝ }

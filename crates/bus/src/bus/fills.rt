@@ -38,7 +38,8 @@ impl<P: Protocol, M: Memory> Bus<P, M> {
         ensures obeys { λ r. ⌜ Obeys lines aside (transact ReadShared seat line (readShared (cells (now (self .entry) .protocol)) seat)) (single r) 11 (now (self .entry)) (now (self .exit)) ⌝ }
         ensures held { λ _. ⌜ valid (stateAt (copiesOf line (cachesOf (now (self .exit) .caches))) seat) ≡ true ⌝ }
     {
-        let heeded = self.caches.react(&self.protocol, seat, line, Heard::ReadShared);
+        let heeded = self.caches
+            .react(&self.protocol, seat, line, Heard::ReadShared);
         let words = supply(&self.memory, line, heeded);
         reflect(&mut self.memory, line, words, heeded.reflected);
         let state = after_read(&self.protocol, seat, !heeded.shared);
@@ -56,7 +57,13 @@ impl<P: Protocol, M: Memory> Bus<P, M> {
     }
 
     /// RX: the others become Invalid, an owner or else memory supplies the line, and the seat takes it with the new word.
-    pub(super) fn read_invalidate(&mut self, seat: usize, line: usize, word: usize, value: u32) -> Record
+    pub(super) fn read_invalidate(
+        &mut self,
+        seat: usize,
+        line: usize,
+        word: usize,
+        value: u32,
+    ) -> Record
         requires on { ⌜ seat < now self .caches .seats ⌝ }
         requires there { ⌜ line < length (lines (now self .memory)) ⌝ }
         requires absent { ⌜ valid (stateAt (copiesOf line (cachesOf (now self .caches))) seat) ≡ false ⌝ }
@@ -65,7 +72,8 @@ impl<P: Protocol, M: Memory> Bus<P, M> {
         requires room { ⌜ Room 11 (now self .tally) ⌝ }
         ensures { λ r. ⌜ Obeys lines aside (transact ReadInvalidate seat line (readInvalidate seat word value)) (single r) 11 (now (self .entry)) (now (self .exit)) ⌝ }
     {
-        let heeded = self.caches.react(&self.protocol, seat, line, Heard::ReadInvalidate);
+        let heeded = self.caches
+            .react(&self.protocol, seat, line, Heard::ReadInvalidate);
         let mut words = supply(&self.memory, line, heeded);
         words[word] = value;
         self.caches.place(seat, line, State::Modified, words);

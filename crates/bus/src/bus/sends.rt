@@ -33,7 +33,8 @@ impl<P: Protocol, M: Memory> Bus<P, M> {
         requires room { ⌜ Room 11 (now self .tally) ⌝ }
         ensures { λ r. ⌜ Obeys lines aside (transact Invalidate seat line (invalidate seat word value)) (single r) 11 (now (self .entry)) (now (self .exit)) ⌝ }
     {
-        let heeded = self.caches.react(&self.protocol, seat, line, Heard::Invalidate);
+        let heeded = self.caches
+            .react(&self.protocol, seat, line, Heard::Invalidate);
         self.caches.write(seat, line, State::Modified, word, value);
         let event = Record {
             transaction: Transaction::Invalidate,
@@ -55,7 +56,8 @@ impl<P: Protocol, M: Memory> Bus<P, M> {
         requires room { ⌜ Room 11 (now self .tally) ⌝ }
         ensures { λ r. ⌜ Obeys lines aside (transact Update seat line (update (cells (now (self .entry) .protocol)) seat word value)) (single r) 11 (now (self .entry)) (now (self .exit)) ⌝ }
     {
-        let heeded = self.caches.react(&self.protocol, seat, line, Heard::Update { word, value });
+        let heeded = self.caches
+            .react(&self.protocol, seat, line, Heard::Update { word, value });
         let state = after_update(&self.protocol, seat, !heeded.shared);
         self.caches.write(seat, line, state, word, value);
         let event = Record {
@@ -71,7 +73,13 @@ impl<P: Protocol, M: Memory> Bus<P, M> {
     }
 
     /// TU: memory and the others take the word, and the seat's copy goes by its state.
-    pub(super) fn through_update(&mut self, seat: usize, line: usize, word: usize, value: u32) -> Record
+    pub(super) fn through_update(
+        &mut self,
+        seat: usize,
+        line: usize,
+        word: usize,
+        value: u32,
+    ) -> Record
         requires on { ⌜ seat < now self .caches .seats ⌝ }
         requires held { ⌜ valid (stateAt (copiesOf line (cachesOf (now self .caches))) seat) ≡ true ⌝ }
         requires within { ⌜ word < 4 ⌝ }
@@ -80,7 +88,12 @@ impl<P: Protocol, M: Memory> Bus<P, M> {
     {
         let _ = self.memory.write_word(line, word, value);
         let old = self.caches.state(seat, line);
-        let heeded = self.caches.react(&self.protocol, seat, line, Heard::ThroughUpdate { word, value });
+        let heeded = self.caches.react(
+            &self.protocol,
+            seat,
+            line,
+            Heard::ThroughUpdate { word, value },
+        );
         let state = after_through_update(&self.protocol, seat, !heeded.shared, old);
         self.caches.write(seat, line, state, word, value);
         let event = Record {
@@ -96,14 +109,21 @@ impl<P: Protocol, M: Memory> Bus<P, M> {
     }
 
     /// TI: memory takes the word, the others become Invalid, and the seat's copy, if there is one, goes by its state.
-    pub(super) fn through_invalidate(&mut self, seat: usize, line: usize, word: usize, value: u32) -> Record
+    pub(super) fn through_invalidate(
+        &mut self,
+        seat: usize,
+        line: usize,
+        word: usize,
+        value: u32,
+    ) -> Record
         requires on { ⌜ seat < now self .caches .seats ⌝ }
         requires within { ⌜ word < 4 ⌝ }
         requires room { ⌜ Room 11 (now self .tally) ⌝ }
         ensures { λ r. ⌜ Obeys lines aside (transact ThroughInvalidate seat line (throughInvalidate (cells (now (self .entry) .protocol)) seat word value)) (single r) 11 (now (self .entry)) (now (self .exit)) ⌝ }
     {
         let _ = self.memory.write_word(line, word, value);
-        let heeded = self.caches.react(&self.protocol, seat, line, Heard::ThroughInvalidate);
+        let heeded = self.caches
+            .react(&self.protocol, seat, line, Heard::ThroughInvalidate);
         keep_through(&mut self.caches, &self.protocol, seat, line, word, value);
         let event = Record {
             transaction: Transaction::ThroughInvalidate,

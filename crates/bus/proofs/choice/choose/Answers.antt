@@ -23,7 +23,7 @@ returns-in-rest g c =
     let cells = g .P·Protocol .cells p in
     let byte = c .code-at-code .result in
     let law : among byte (codes "3456") ≡ true =
-        subst (λ (b : ℕ). among b (codes "3456") ≡ true) (sym (c .code-at-code .ensures))
-        (sent-law cells (g .P·Protocol·met .lawful p) (c .args .seat) (c .args .state) (c .in-rest .not-Invalid-0) (c .in-rest .not-Exclusive-0) (c .in-rest .not-Modified-0)) in
+    subst (λ (b : ℕ). among b (codes "3456") ≡ true) (sym (c .code-at-code .ensures))
+    (sent-law cells (g .P·Protocol·met .lawful p) (c .args .seat) (c .args .state) (c .in-rest .not-Invalid-0) (c .in-rest .not-Exclusive-0) (c .in-rest .not-Modified-0)) in
     sent-rest byte law (c .if-code-eq51 .left) (c .if-code-eq52 .left) (c .if-code-eq53 .left)
     ∙ ap digitTransaction (c .code-at-code .ensures)

@@ -57,7 +57,7 @@ returns g c =
     let x = kept (afterRS (cell seat) (alone seat ys)) (supplied xs (getD ls line [])) in
     let zs = set ys seat x in
     let own : kept (c .after-read-state .result) (c .supply-words .result) ≡ x =
-        ap (λ (s : State). kept s (c .supply-words .result)) state ∙ ap (kept (afterRS (cell seat) (alone seat ys))) words in
+    ap (λ (s : State). kept s (c .supply-words .result)) state ∙ ap (kept (afterRS (cell seat) (alone seat ys))) words in
     let event : Bool → Bool → Supplier → Record = λ s f p. record { transaction = ReadShared; seat = seat; line = line; shared = s; reflected = f; supplier = p } in
     let e = event (a .shared) (a .reflected) (c .supplier .result) in
     let reflected : a .reflected ≡ reflects xs zs = told-reflected line seat cs ys (c .pre .absent) w a told x in
@@ -89,7 +89,7 @@ returns g c =
       held =
           ap (λ (ws : List Copy). valid (stateAt ws seat)) (c .place .ensures .copies)
           ∙ ap (λ (y : Copy). valid (y .state))
-            (own-there (b .caches) line seat (c .pre .on) (λ k. heardRS (cell k)) same (copiesOf line cs₁) (kept (c .after-read-state .result) (c .supply-words .result))
-            (copies-long (c .react-heeded .last .self) line ∙ c .react-heeded .ensures .seats))
+          (own-there (b .caches) line seat (c .pre .on) (λ k. heardRS (cell k)) same (copiesOf line cs₁) (kept (c .after-read-state .result) (c .supply-words .result))
+          (copies-long (c .react-heeded .last .self) line ∙ c .react-heeded .ensures .seats))
           ∙ c .after-read-state .ensures .held;
     }

@@ -25,18 +25,23 @@ returns g c =
     let line = c .args .line in
     let cs = cachesOf (b .caches) in
     let event : Bool → Record = λ shared. record { transaction = WriteBack; seat = seat; line = line; shared = shared; reflected = false; supplier = Nobody } in
-    record { obeys = record {
-      machine =
-          transact-is cs (lines (b .memory)) (b .tally) line (writeBack seat) WriteBack seat
-          (event (c .shared .result)) cs (lines (c .write-line .last .self)) (c .count-transaction .last .tally)
-          (sym (putEach-same line cs))
-          (c .write-line .ensures .lines ∙ ap (set (lines (b .memory)) line) (c .words-words .ensures))
-          (ap event (c .shared .ensures))
-          (c .count-transaction .ensures .value ∙ ap (λ n. tallied (event (c .shared .result)) n (b .tally)) (sym (lost-self seat (copiesOf line cs))));
-      stays = record { grown = omega (arith, c .count-transaction .ensures .most);
-      protocol = refl;
-      apart = c .write-line .ensures .aside;
-      count = ap length (c .write-line .ensures .lines) ∙ length-set (lines (b .memory)) line (c .words-words .result);
-      seats = refl;
-      sets = refl };
-    }; caches = refl }
+    record {
+      obeys = record {
+        machine =
+            transact-is cs (lines (b .memory)) (b .tally) line (writeBack seat) WriteBack seat
+            (event (c .shared .result)) cs (lines (c .write-line .last .self)) (c .count-transaction .last .tally)
+            (sym (putEach-same line cs))
+            (c .write-line .ensures .lines ∙ ap (set (lines (b .memory)) line) (c .words-words .ensures))
+            (ap event (c .shared .ensures))
+            (c .count-transaction .ensures .value ∙ ap (λ n. tallied (event (c .shared .result)) n (b .tally)) (sym (lost-self seat (copiesOf line cs))));
+        stays = record {
+          grown = omega (arith, c .count-transaction .ensures .most);
+          protocol = refl;
+          apart = c .write-line .ensures .aside;
+          count = ap length (c .write-line .ensures .lines) ∙ length-set (lines (b .memory)) line (c .words-words .result);
+          seats = refl;
+          sets = refl;
+        };
+      };
+      caches = refl;
+    }
