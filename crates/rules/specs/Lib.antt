@@ -1,0 +1,10 @@
+pub mod Columns
+pub mod Transactions
+pub mod Caches
+pub mod Tallies
+pub mod Machines
+pub mod Accesses
+pub mod Systems
+pub mod Ledgers
+pub mod Sessions
+pub mod Coherence
