@@ -1,0 +1,6 @@
+mod Clearing
+mod Filling
+mod Keeping
+mod Answering
+mod Beginning
+mod Ending

@@ -1,0 +1,5 @@
+pub mod Views
+pub mod Histories
+pub mod Calls
+pub mod Openings
+pub mod Closings
