@@ -4,3 +4,4 @@ mod Keeping
 mod Answering
 mod Beginning
 mod Ending
+mod Replaying

@@ -3,3 +3,4 @@ pub mod Histories
 pub mod Calls
 pub mod Openings
 pub mod Closings
+pub mod Replayed

@@ -15,6 +15,7 @@ mod calls;
 mod checks;
 mod closing;
 mod looks;
+mod makes;
 mod opening;
 
 pub use checks::CALL_LIMIT;
