@@ -5,3 +5,4 @@ mod Answering
 mod Beginning
 mod Ending
 mod Replaying
+mod Wholes
