@@ -20,11 +20,11 @@ impl<P: Protocol, M: Memory> Run<P, M> {
         self.check(seat, address, records.len())?;
         let line = address as usize / WORDS_IN_LINE;
         let word = address as usize % WORDS_IN_LINE;
-        let made = self.bus.read(seat as usize, line, records);
+        let answer = self.bus.read(seat as usize, line, word, records);
         self.calls += 1;
         Ok(Reply {
-            value: self.bus.caches.word(seat as usize, line, word),
-            records: made,
+            value: answer.value,
+            records: answer.made,
         })
     }
 
@@ -41,11 +41,11 @@ impl<P: Protocol, M: Memory> Run<P, M> {
         self.check(seat, address, records.len())?;
         let line = address as usize / WORDS_IN_LINE;
         let word = address as usize % WORDS_IN_LINE;
-        let made = self.bus.write(seat as usize, line, word, value, records);
+        let answer = self.bus.write(seat as usize, line, word, value, records);
         self.calls += 1;
         Ok(Reply {
-            value,
-            records: made,
+            value: answer.value,
+            records: answer.made,
         })
     }
 
@@ -55,11 +55,11 @@ impl<P: Protocol, M: Memory> Run<P, M> {
     {
         self.check(seat, address, records.len())?;
         let line = address as usize / WORDS_IN_LINE;
-        let made = self.bus.flush(seat as usize, line, records);
+        let answer = self.bus.flush(seat as usize, line, records);
         self.calls += 1;
         Ok(Reply {
-            value: made as u32,
-            records: made,
+            value: answer.value,
+            records: answer.made,
         })
     }
 

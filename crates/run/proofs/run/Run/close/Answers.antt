@@ -20,6 +20,6 @@ returns g c =
       bottom = bottom;
       tally = tally;
       written = c .settle-written .ensures .written ∙ sym (closed-lines s);
-      apart = c .drain .ensures .aside ∙ c .settle-written .ensures .obeys .apart;
+      apart = c .drain .ensures .aside ∙ c .settle-written .ensures .obeys .stays .apart;
       squares = squares s _ _ _ reads bottom tally;
     }

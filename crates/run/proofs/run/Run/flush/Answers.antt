@@ -3,7 +3,6 @@ use Prim.Native.Nat.{ℕ, _+_, _*_, _/_, _<_, _≤_}
 use native.Mathlib.Omega.{arith}
 use native.Mathlib.Nat.{mod-lt}
 use mathlib.Core.Path.{_≡_, refl, sym, _∙_, ap}
-use mathlib.Core.List.{[]}
 use lib.ListN.{length, take}
 use Rattle.std.proofs.shelf.Results.{err-from-errBy}
 use Rattle.rules.specs.declared.call.Call.the-variants.{Flush}
@@ -22,8 +21,8 @@ returns-in-Break-check g c =
     (refused-call (g .P·Protocol .cells) (g .M·Memory .lines) (g .M·Memory .aside) (Flush (c .args .seat) (c .args .address) (length (c .args .records .now)))
     (c .args .self .now) (c .args .records .now) (c .in-Break-check .field-0 .0) (c .in-Break-check .ensures tt))
 
-pub flush-made-requires : need.flush-made-requires
-flush-made-requires g c κs =
+pub flush-answer-requires : need.flush-answer-requires
+flush-answer-requires g c κs =
     let s = systemOf (g .P·Protocol .cells) (g .M·Memory .lines) (c .args .self .now) in
     let e = c .in-Continue-check .ensures tt .0 in
     let n = calls-left s (c .args .seat) (c .args .address) (length (c .args .records .now)) e in
@@ -40,8 +39,8 @@ returns g c =
     let s = systemOf (g .P·Protocol .cells) (g .M·Memory .lines) (c .args .self .now) in
     let e = c .in-Continue-check .ensures tt .0 in
     let enough = places-enough s (c .args .seat) (c .args .address) (length (c .args .records .now)) e in
-    let few : c .flush-made .result ≤ length (c .flush-made .last .records) = omega (arith, enough, c .flush-made .ensures .few, c .flush-made .kept .records) in
+    let few : c .flush-answer .result .made ≤ length (c .flush-answer .last .records) = omega (arith, enough, c .flush-answer .ensures .reaches .few, c .flush-answer .kept .records) in
     access-call (g .P·Protocol .cells) (g .M·Memory .lines) (g .M·Memory .aside) (Flush (c .args .seat) (c .args .address) (length (c .args .records .now))) (c .args .self .now) _
-    (c .flush-made .result) (c .args .records .now) (c .flush-made .last .records) (c .flush-made .result)
-    refl e (c .flush-made .ensures .obeys .machine []) (c .flush-made .ensures .obeys .protocol) (c .flush-made .ensures .obeys .apart) refl few (c .flush-made .ensures .rest)
-    (sym (made-long (c .flush-made .result) (c .args .records .now) (c .flush-made .last .records) few))
+    (c .flush-answer .result .made) (c .args .records .now) (c .flush-answer .last .records) (c .flush-answer .result .value)
+    refl e (c .flush-answer .ensures .reaches .machine) (c .flush-answer .ensures .reaches .stays .protocol) (c .flush-answer .ensures .reaches .stays .apart) refl few (c .flush-answer .ensures .reaches .rest)
+    (c .flush-answer .ensures .value ∙ sym (made-long (c .flush-answer .result .made) (c .args .records .now) (c .flush-answer .last .records) few))

@@ -3,7 +3,6 @@ use Prim.Native.Nat.{ℕ, _+_, _*_, _/_, _<_, _≤_}
 use native.Mathlib.Omega.{arith}
 use native.Mathlib.Nat.{mod-lt}
 use mathlib.Core.Path.{_≡_, refl, sym, _∙_, ap}
-use mathlib.Core.List.{[]}
 use lib.ListN.{length, take}
 use Rattle.std.proofs.shelf.Results.{err-from-errBy}
 use Rattle.rules.specs.declared.call.Call.the-variants.{Read}
@@ -22,8 +21,8 @@ returns-in-Break-check g c =
     (refused-call (g .P·Protocol .cells) (g .M·Memory .lines) (g .M·Memory .aside) (Read (c .args .seat) (c .args .address) (length (c .args .records .now)))
     (c .args .self .now) (c .args .records .now) (c .in-Break-check .field-0 .0) (c .in-Break-check .ensures tt))
 
-pub read-made-requires : need.read-made-requires
-read-made-requires g c κs =
+pub read-answer-requires : need.read-answer-requires
+read-answer-requires g c κs =
     let s = systemOf (g .P·Protocol .cells) (g .M·Memory .lines) (c .args .self .now) in
     let e = c .in-Continue-check .ensures tt .0 in
     let n = calls-left s (c .args .seat) (c .args .address) (length (c .args .records .now)) e in
@@ -31,20 +30,10 @@ read-made-requires g c κs =
     let few : total (c .args .self .now .bus .tally) ≤ 2048 * c .args .self .now .calls = c .args .self .now .counted in
     record {
       on = omega (arith, on, caches-long (c .args .self .now .bus .caches));
-      below = line-below s (c .args .seat) (c .args .address) (length (c .args .records .now)) e;
+      there = line-below s (c .args .seat) (c .args .address) (length (c .args .records .now)) e;
+      within = mod-lt (c .args .address) (omega arith);
       places = places-enough s (c .args .seat) (c .args .address) (length (c .args .records .now)) e;
       room = omega (arith, n, few);
-    }
-
-pub word-requires : need.word-requires
-word-requires g c κs =
-    let s = systemOf (g .P·Protocol .cells) (g .M·Memory .lines) (c .args .self .now) in
-    let e = c .in-Continue-check .ensures tt .0 in
-    let on = seat-on s (c .args .seat) (c .args .address) (length (c .args .records .now)) e in
-    record {
-      on = omega (arith, on, caches-long (c .args .self .now .bus .caches), c .read-made .ensures .obeys .seats);
-      held = c .read-made .ensures .held;
-      within = mod-lt (c .args .address) (omega arith);
     }
 
 pub returns : need.returns
@@ -52,8 +41,8 @@ returns g c =
     let s = systemOf (g .P·Protocol .cells) (g .M·Memory .lines) (c .args .self .now) in
     let e = c .in-Continue-check .ensures tt .0 in
     let enough = places-enough s (c .args .seat) (c .args .address) (length (c .args .records .now)) e in
-    let few : c .read-made .result ≤ length (c .read-made .last .records) = omega (arith, enough, c .read-made .ensures .few, c .read-made .kept .records) in
+    let few : c .read-answer .result .made ≤ length (c .read-answer .last .records) = omega (arith, enough, c .read-answer .ensures .reaches .few, c .read-answer .kept .records) in
     access-call (g .P·Protocol .cells) (g .M·Memory .lines) (g .M·Memory .aside) (Read (c .args .seat) (c .args .address) (length (c .args .records .now))) (c .args .self .now) _
-    (c .read-made .result) (c .args .records .now) (c .read-made .last .records) (c .word .result)
-    refl e (c .read-made .ensures .obeys .machine []) (c .read-made .ensures .obeys .protocol) (c .read-made .ensures .obeys .apart) refl few (c .read-made .ensures .rest)
-    (c .word .ensures)
+    (c .read-answer .result .made) (c .args .records .now) (c .read-answer .last .records) (c .read-answer .result .value)
+    refl e (c .read-answer .ensures .reaches .machine) (c .read-answer .ensures .reaches .stays .protocol) (c .read-answer .ensures .reaches .stays .apart) refl few (c .read-answer .ensures .reaches .rest)
+    (c .read-answer .ensures .value)

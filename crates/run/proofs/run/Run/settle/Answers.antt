@@ -26,5 +26,5 @@ returns g c =
     let e = c .in-Continue-check-calls .ensures tt .0 in
     answered-call (g .P·Protocol .cells) (g .M·Memory .lines) (g .M·Memory .aside) Settle (c .args .self .now) _
     (settled (atWork s) .records) [] [] (record { value = c .settle-written .result; records = 0 })
-    e (c .settle-written .ensures .obeys .machine []) (c .settle-written .ensures .obeys .protocol) (c .settle-written .ensures .obeys .apart) refl
+    e (c .settle-written .ensures .obeys .machine []) (c .settle-written .ensures .obeys .stays .protocol) (c .settle-written .ensures .obeys .stays .apart) refl
     refl (ap (λ (n : ℕ). record { value = n; records = 0 }) (c .settle-written .ensures .written))

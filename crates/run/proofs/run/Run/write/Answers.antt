@@ -3,7 +3,6 @@ use Prim.Native.Nat.{ℕ, _+_, _*_, _/_, _<_, _≤_}
 use native.Mathlib.Omega.{arith}
 use native.Mathlib.Nat.{mod-lt}
 use mathlib.Core.Path.{_≡_, refl, sym, _∙_, ap}
-use mathlib.Core.List.{[]}
 use lib.ListN.{length, take}
 use Rattle.std.proofs.shelf.Results.{err-from-errBy}
 use Rattle.rules.specs.declared.call.Call.the-variants.{Write}
@@ -22,8 +21,8 @@ returns-in-Break-check g c =
     (refused-call (g .P·Protocol .cells) (g .M·Memory .lines) (g .M·Memory .aside) (Write (c .args .seat) (c .args .address) (c .args .value) (length (c .args .records .now)))
     (c .args .self .now) (c .args .records .now) (c .in-Break-check .field-0 .0) (c .in-Break-check .ensures tt))
 
-pub write-made-requires : need.write-made-requires
-write-made-requires g c κs =
+pub write-answer-requires : need.write-answer-requires
+write-answer-requires g c κs =
     let s = systemOf (g .P·Protocol .cells) (g .M·Memory .lines) (c .args .self .now) in
     let e = c .in-Continue-check .ensures tt .0 in
     let n = calls-left s (c .args .seat) (c .args .address) (length (c .args .records .now)) e in
@@ -31,7 +30,7 @@ write-made-requires g c κs =
     let few : total (c .args .self .now .bus .tally) ≤ 2048 * c .args .self .now .calls = c .args .self .now .counted in
     record {
       on = omega (arith, on, caches-long (c .args .self .now .bus .caches));
-      below = line-below s (c .args .seat) (c .args .address) (length (c .args .records .now)) e;
+      there = line-below s (c .args .seat) (c .args .address) (length (c .args .records .now)) e;
       within = mod-lt (c .args .address) (omega arith);
       places = places-enough s (c .args .seat) (c .args .address) (length (c .args .records .now)) e;
       room = omega (arith, n, few);
@@ -42,8 +41,8 @@ returns g c =
     let s = systemOf (g .P·Protocol .cells) (g .M·Memory .lines) (c .args .self .now) in
     let e = c .in-Continue-check .ensures tt .0 in
     let enough = places-enough s (c .args .seat) (c .args .address) (length (c .args .records .now)) e in
-    let few : c .write-made .result ≤ length (c .write-made .last .records) = omega (arith, enough, c .write-made .ensures .few, c .write-made .kept .records) in
+    let few : c .write-answer .result .made ≤ length (c .write-answer .last .records) = omega (arith, enough, c .write-answer .ensures .reaches .few, c .write-answer .kept .records) in
     access-call (g .P·Protocol .cells) (g .M·Memory .lines) (g .M·Memory .aside) (Write (c .args .seat) (c .args .address) (c .args .value) (length (c .args .records .now))) (c .args .self .now) _
-    (c .write-made .result) (c .args .records .now) (c .write-made .last .records) (c .args .value)
-    refl e (c .write-made .ensures .obeys .machine []) (c .write-made .ensures .obeys .protocol) (c .write-made .ensures .obeys .apart) refl few (c .write-made .ensures .rest)
-    (refl)
+    (c .write-answer .result .made) (c .args .records .now) (c .write-answer .last .records) (c .write-answer .result .value)
+    refl e (c .write-answer .ensures .reaches .machine) (c .write-answer .ensures .reaches .stays .protocol) (c .write-answer .ensures .reaches .stays .apart) refl few (c .write-answer .ensures .reaches .rest)
+    (c .write-answer .ensures .value)
