@@ -39,7 +39,7 @@ module _ (cell : Protocol) (law : Lawful cell) (agreed : Agreed) (memory : List 
   history k = stood cell (agreed .seats) (agreed .sets) memory (callsOf given) k
 
   abbrev ledger : ℕ → Ledger
-  ledger k = ledgerThen cell (agreed .seats) (agreed .sets) memory (callsOf given) k
+  ledger k = ledgerThen (agreed .seats) memory (callsOf given) k
 
   since : (k : ℕ) → Since z (history k) (ledger k)
   since k = since-calls (take k (callsOf given)) (begins cell law agreed memory shaped)

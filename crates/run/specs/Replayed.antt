@@ -82,20 +82,20 @@ pub record Replayed (z : Sizes) (cell : Protocol) (memory : List (List ℕ)) (hi
   -- both lists of memory have the ledger's word at every address, and the tally balances
   pub squares : Squared z lines settled tally (ledger (length given))
 
--- the history and the ledger of a list of calls
-module _ (cell : Protocol) (seats sets : ℕ) (memory : List (List ℕ)) (calls : List Call) where
-  abbrev pub stood : ℕ → System
-  stood k = after 4 (take k calls) (opened cell seats sets memory)
+-- the run after the first k calls
+abbrev pub stood : Protocol → (seats sets : ℕ) → List (List ℕ) → List Call → ℕ → System
+stood cell seats sets memory calls k = after 4 (take k calls) (opened cell seats sets memory)
 
-  abbrev pub ledgerThen : ℕ → Ledger
-  ledgerThen k = ledgerAfter seats (length memory * 4) (take k calls) (begun 4 memory)
+-- the ledger after the first k calls
+abbrev pub ledgerThen : (seats : ℕ) → List (List ℕ) → List Call → ℕ → Ledger
+ledgerThen seats memory calls k = ledgerAfter seats (length memory * 4) (take k calls) (begun 4 memory)
 
 -- a replay over a memory, under a protocol
 pub record Replays {P M A : Type 0} (cells : P → ℕ → ℕ → ℕ) (lines settled : M → List (List ℕ)) (aside : M → A) (agreed : Agreed) (protocol : P) (memory : M) (given left : List Step) (c : Closed M) : Type 0 where
   pub promise :
       Replayed (sizes (agreed .seats) (agreed .sets) (length (lines memory))) (cells protocol) (lines memory)
       (stood (cells protocol) (agreed .seats) (agreed .sets) (lines memory) (callsOf given))
-      (ledgerThen (cells protocol) (agreed .seats) (agreed .sets) (lines memory) (callsOf given))
+      (ledgerThen (agreed .seats) (lines memory) (callsOf given))
       given left (lines (c .memory)) (settled (c .memory)) (c .tally) (c .written)
   -- what memory keeps aside is as it was
   pub apart : aside (c .memory) ≡ aside memory

@@ -1,5 +1,6 @@
 // Closing a run.
 ghost use Prim.Native.Nat.{ℕ};
+ghost use mathlib.Core.Path.{_≡_};
 ghost use Rattle.run.specs.Closings.{Closes};
 use super::Run;
 use crate::closed::Closed;
@@ -7,6 +8,16 @@ use crate::ticket::Ticket;
 use bus::Bus;
 use memory::Memory;
 use protocol::Protocol;
+
+// The memory with every line settled at the bottom.
+fn drained<M: Memory>(mut memory: M) -> M
+    ensures lines { λ r. ⌜ lines r ≡ lines memory ⌝ }
+    ensures settled { λ r. ⌜ settled r ≡ lines memory ⌝ }
+    ensures aside { λ r. ⌜ aside r ≡ aside memory ⌝ }
+{
+    memory.drain();
+    memory
+}
 
 impl<P: Protocol + Drop, M: Memory> Run<P, M> {
     /// Settles, drains the memory, and gives it back with the tally and the lines written. It is never refused.
@@ -18,13 +29,12 @@ impl<P: Protocol + Drop, M: Memory> Run<P, M> {
         let written = bus.settle();
         let Bus {
             protocol: _,
-            mut memory,
+            memory,
             caches: _,
             tally,
         } = bus;
-        memory.drain();
         Closed {
-            memory,
+            memory: drained(memory),
             tally,
             written,
         }

@@ -12,14 +12,14 @@ returns g c =
     let s = systemOf (g .P·Protocol .cells) (g .M·Memory .lines) (c .args .self) in
     let m = c .settle-written .ensures .obeys .machine [] in
     let left = ap (λ (x : Machine). x .memory) m ∙ sym (closed-memory s) in
-    let reads = c .drain .ensures .lines ∙ left in
-    let bottom = c .drain .ensures .settled ∙ left in
+    let reads = c .drained .ensures .lines ∙ left in
+    let bottom = c .drained .ensures .settled ∙ left in
     let tally = ap (λ (x : Machine). x .tally) m ∙ sym (closed-tally s) in
     record {
       reads = reads;
       bottom = bottom;
       tally = tally;
       written = c .settle-written .ensures .written ∙ sym (closed-lines s);
-      apart = c .drain .ensures .aside ∙ c .settle-written .ensures .obeys .stays .apart;
+      apart = c .drained .ensures .aside ∙ c .settle-written .ensures .obeys .stays .apart;
       squares = squares s _ _ _ reads bottom tally;
     }
