@@ -1,7 +1,7 @@
 -- The bus is settled, and the memory drained: both lists are what the settle leaves.
-use mathlib.Core.Path.{_≡_, refl, sym, _∙_, ap}
-use mathlib.Core.List.{List, []}
-use Prim.Native.Nat.{ℕ}
+use mathlib.Core.Path.{sym, _∙_, ap}
+use mathlib.Core.List.{[]}
+use lib.ListN.{length}
 use Rattle.rules.specs.Machines.{Machine}
 use Rattle.run.specs.Views.{systemOf}
 use Rattle.run.proofs.Ending.{closed-memory, closed-tally, closed-lines, squares}
@@ -19,7 +19,7 @@ returns g c =
       reads = reads;
       bottom = bottom;
       tally = tally;
-      written = c .settle-written .ensures .written ∙ sym (closed-lines s);
+      written = c .settle-written .ensures .wrote ∙ ap (λ (x : Machine). length (x .records)) m ∙ sym (closed-lines s);
       apart = c .drained .ensures .aside ∙ c .settle-written .ensures .obeys .stays .apart;
       squares = squares s _ _ _ reads bottom tally;
     }
