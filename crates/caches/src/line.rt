@@ -1,5 +1,7 @@
 // One place of a cache, and how the copy in it reacts to what it hears.
+ghost use Prim.Native.Nat.{_<_};
 ghost use mathlib.Core.Path.{_≡_};
+ghost use lib.ListN.{set};
 ghost use Rattle.caches.specs.Lines.{copyOf};
 ghost use Rattle.caches.specs.Hearing.{Within, reaction};
 use crate::heard::Heard;
@@ -32,19 +34,19 @@ impl CacheLine {
             (State::Owned, Heard::ReadShared) => self.state = cell_state(protocol, seat, 11),
             (State::Modified, Heard::ReadShared) => self.state = cell_state(protocol, seat, 12),
             (State::Shared, Heard::Update { word, value }) => {
-                self.state = cell_state(protocol, seat, 13);
+                self.state = cell_state(protocol, seat, 13); // heard at Shared
                 self.words[word] = value;
             }
             (State::Exclusive, Heard::Update { word, value }) => {
-                self.state = cell_state(protocol, seat, 13);
+                self.state = cell_state(protocol, seat, 13); // Exclusive counts as Shared
                 self.words[word] = value;
             }
             (State::Owned, Heard::Update { word, value }) => {
-                self.state = cell_state(protocol, seat, 14);
+                self.state = cell_state(protocol, seat, 14); // heard at Owned
                 self.words[word] = value;
             }
             (State::Modified, Heard::Update { word, value }) => {
-                self.state = cell_state(protocol, seat, 14);
+                self.state = cell_state(protocol, seat, 14); // Modified counts as Owned
                 self.words[word] = value;
             }
             (State::Shared, Heard::ThroughUpdate { word, value }) => {
@@ -62,5 +64,16 @@ impl CacheLine {
             }
         }
         self.state
+    }
+
+    /// The copy takes a state and one word.
+    pub fn take(&mut self, state: State, word: usize, value: u32)
+        requires { ⌜ word < 4 ⌝ }
+        ensures state { λ _. ⌜ now (self .exit) .state ≡ state ⌝ }
+        ensures tag { λ _. ⌜ now (self .exit) .tag ≡ now (self .entry) .tag ⌝ }
+        ensures words { λ _. ⌜ now (self .exit) .words ≡ set (now (self .entry) .words) word value ⌝ }
+    {
+        self.state = state;
+        self.words[word] = value;
     }
 }

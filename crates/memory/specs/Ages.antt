@@ -1,25 +1,28 @@
 -- Lines that wait, in the order of their age. The contracts of the write buffer cite it.
 --
--- blank      what stands where no line waits
--- waits      a line that waits, with its words
--- holds      whether a line waits
--- Newest     a place where a line waits, with none newer
--- Apart      no line waits twice
--- withWords  a waiting line with its words changed
--- full       as many lines wait as may
--- changed    the waiting lines after the words of one changed
--- over       what stands below, as it will be once all that waits has gone down
+-- blank        what stands where no line waits
+-- waits        a line that waits, with its words
+-- withWords    a waiting line with its words changed
+-- mostWaiting  how many lines may wait
+-- full         as many lines wait as may
+-- holds        whether a line waits
+-- Newest       a place where a line waits, with none newer
+-- Apart        no line waits twice
+-- changed      the waiting lines after the words of one changed
+-- over         what stands below, as it will be once all that waits has gone down
 use Prim.Native.Nat.{ℕ, _+_, _<_}
 use mathlib.Core.Path.{_≡_}
 use mathlib.Core.List.{List, [], _∷_}
-use mathlib.Core.Bool.{Bool, true, false, cond, not, _||_}
-use lib.Dec.{eqb, ltb}
+use mathlib.Core.Bool.{Bool, false, cond, _||_}
+use lib.Dec.{eqb}
 use lib.ListN.{length, getD, set, drop}
 use Rattle.memory.specs.declared.queue.Waiting.{Waiting}
 
+-- what stands at a place where no line waits
 abbrev pub blank : Waiting
 blank = record { line = 0; words = [] }
 
+-- a line waits with these words
 abbrev pub waits : ℕ → List ℕ → Waiting
 waits line words = record { line = line; words = words }
 
@@ -31,9 +34,11 @@ withWords f w = record { line = w .line; words = f (w .words) }
 abbrev pub mostWaiting : ℕ
 mostWaiting = 4
 
+-- there is no place for one more
 abbrev pub full : List Waiting → Bool
 full ws = eqb (length ws) mostWaiting
 
+-- the line is one of those that wait
 abbrev pub holds : ℕ → List Waiting → Bool
 holds line [] = false
 holds line (w ∷ ws) = eqb (w .line) line || holds line ws

@@ -2,6 +2,7 @@
 --
 -- Buffer     the waiting lines, oldest first, and the lines below
 -- seen       what reads answer
+-- heldChanged, sentFrom, roomMade, come  the steps of a call
 -- lineTaken  after a line was written
 -- wordTaken  after a word was written
 -- allSent    after everything that waits went down
@@ -16,6 +17,7 @@ use Rattle.memory.specs.Waits.{waitingIn}
 use Rattle.memory.specs.declared.queue.Waiting.{Waiting}
 use Rattle.memory.specs.declared.write_buffer.WriteBuffer.{WriteBuffer}
 
+-- the lines that wait, oldest first, and the lines below
 pub record Buffer : Type 0 where
   pub waiting : List Waiting
   pub below : List (List ℕ)

@@ -3,6 +3,7 @@
 -- wordsInLine  how many words a line has
 -- mostLines    how many lines a memory may have
 -- Lawful       what holds of the two lists of any memory
+-- Shaped       each line has as many words as a line has
 -- lineDue      the refusal that is due for a line
 -- wordDue      the refusal that is due for a word of a line
 -- wordWritten  the lines after one word was written
@@ -16,9 +17,11 @@ use Rattle.std.specs.declared.option.Option.{Option}
 use Rattle.std.specs.declared.option.Option.the-variants.{Some, None}
 use Rattle.refusal.specs.Refusals.{Told, plain}
 
+-- how many words a line has
 abbrev pub wordsInLine : ℕ
 wordsInLine = 4
 
+-- how many lines a memory may have
 abbrev pub mostLines : ℕ
 mostLines = 1048576
 

@@ -15,6 +15,7 @@ use Rattle.std.specs.shelf.Lists.{joined}
 use Rattle.memory.specs.declared.plain_memory.Plain.{Plain}
 use Rattle.memory.specs.Lines.{wordsInLine}
 
+-- how many lines plain memory has at most
 abbrev pub mostPlain : ℕ
 mostPlain = 16384
 
@@ -27,17 +28,22 @@ abbrev pub cut : ℕ → ℕ → List ℕ → List (List ℕ)
 cut width zero words = []
 cut width (suc n) words = take width words ∷ cut width n (drop width words)
 
+-- the whole lines of the words, from the first word on
 unfoldable pub linesOf : List ℕ → List (List ℕ)
 linesOf words = cut wordsInLine (whole (length words)) words
 
+-- the words past those lines
 unfoldable pub spareOf : List ℕ → List ℕ
 spareOf words = drop (wordsInLine * whole (length words)) words
 
+-- the words of lines, one line after another
 abbrev pub flat : List (List ℕ) → List ℕ
 flat lines = joined (λ line. line) lines
 
+-- the lines of a plain memory, which are both lists of its meaning
 abbrev pub plainLines : Plain → List (List ℕ)
 plainLines m = linesOf (vec-items (m .words))
 
+-- the words of a plain memory that no call touches
 abbrev pub plainSpare : Plain → List ℕ
 plainSpare m = spareOf (vec-items (m .words))

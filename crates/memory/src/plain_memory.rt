@@ -1,17 +1,17 @@
 // Plain memory: lines over words that are handed in and given back.
-ghost use Prim.Native.Nat.{ℕ, _+_, _*_, _≤_, _<_};
+ghost use Prim.Native.Nat.{ℕ, _<_};
 ghost use lib.ListN.{length, getD, set};
 ghost use mathlib.Core.List.{List, [], _++_};
 ghost use mathlib.Core.Path.{_≡_};
-ghost use Rattle.std.specs.Of.Vec.{vec-items, vec-len};
-ghost use Rattle.refusal.specs.Refusals.{Answers, Kept};
-ghost use Rattle.memory.specs.Lines.{wordsInLine, lineDue, wordWritten};
+ghost use Rattle.std.specs.Of.Vec.{vec-items};
+ghost use Rattle.memory.specs.Lines.{wordsInLine, wordWritten};
 ghost use Rattle.memory.specs.Words.{linesOf, spareOf, whole, flat, plainLines, plainSpare};
 use crate::interface::Line;
 use crate::interface::Memory;
 use crate::interface::WORDS_IN_LINE;
 use refusal::Refusal;
 
+/// How many lines there are at most.
 const MOST_LINES: usize = 16384;
 
 /// A memory over words of its own.
@@ -39,6 +39,7 @@ impl Plain {
         words
     }
 
+    /// How many lines the words make.
     fn lines(&self) -> usize
         ensures lines { λ r. ⌜ r ≡ length (plainLines (now (self .entry))) ⌝ }
         ensures whole { λ r. ⌜ r ≡ whole (length (vec-items (now (self .entry) .words))) ⌝ }
@@ -46,6 +47,7 @@ impl Plain {
         (self.words.len() / WORDS_IN_LINE).min(MOST_LINES)
     }
 
+    /// The words of a line that is there.
     fn line_words(&self, line: usize) -> Line
         requires { ⌜ line < whole (length (vec-items (now self .words))) ⌝ }
         ensures { λ r. ⌜ r ≡ getD (plainLines (now (self .entry))) line [] ⌝ }
@@ -58,6 +60,7 @@ impl Plain {
         words
     }
 
+    /// Puts a value into a word that is there.
     fn put(&mut self, line: usize, word: usize, value: u32)
         requires within { ⌜ line < whole (length (vec-items (now self .words))) ⌝ }
         requires short { ⌜ word < wordsInLine ⌝ }
@@ -68,6 +71,7 @@ impl Plain {
         self.words[WORDS_IN_LINE * line + word] = value;
     }
 
+    /// Puts words into a line that is there.
     fn put_line(&mut self, line: usize, words: Line)
         requires { ⌜ line < whole (length (vec-items (now self .words))) ⌝ }
         ensures lines { λ _. ⌜ plainLines (now (self .exit)) ≡ set (plainLines (now (self .entry))) line words ⌝ }

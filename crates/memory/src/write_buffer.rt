@@ -1,12 +1,12 @@
 // A write buffer over any memory: up to four written lines wait before they go down.
-ghost use Prim.Native.Nat.{ℕ, _<_};
-ghost use lib.ListN.{length, getD, set};
-ghost use mathlib.Core.List.{List, []};
+ghost use Prim.Native.Nat.{_<_};
+ghost use lib.ListN.{set};
+ghost use mathlib.Core.List.{[]};
+ghost use mathlib.Core.Bool.{false};
 ghost use mathlib.Core.Path.{_≡_};
 ghost use Rattle.std.specs.Vec.{made};
 ghost use Rattle.refusal.specs.Refusals.{Answers, Kept};
 ghost use Rattle.memory.specs.Lines.{wordsInLine, lineDue, wordDue, wordWritten};
-ghost use mathlib.Core.Bool.{true, false};
 ghost use Rattle.memory.specs.Ages.{Apart, full, holds};
 ghost use Rattle.memory.specs.Waits.{waitingIn};
 ghost use Rattle.memory.specs.Buffers.{buffer, seen, sentFrom, come, roomMade, lineTaken, wordTaken, allSent};

@@ -4,6 +4,8 @@ mod generic;
 
 pub use counting::Counting;
 pub use counting::CountingMemory;
+pub use generic::through_a_buffer;
+pub use generic::words_in;
 pub use generic::write_through;
 
 #[cfg(test)]

@@ -11,3 +11,5 @@ pub mod Accesses
 pub mod Settling
 pub mod Calls
 pub mod Promises
+pub mod Counts
+pub mod Laws

@@ -3,18 +3,18 @@
 -- agree    two seats may stand so at one line
 -- below    a state has no attribute that the other lacks
 use Prim.Native.Nat.{ℕ}
-use mathlib.Core.Path.{_≡_, refl, sym, _∙_, ap, subst}
-use mathlib.Core.Bool.{Bool, true, false, not, _&&_, _||_, cond}
+use mathlib.Core.Path.{_≡_, refl, sym, ap, subst}
+use mathlib.Core.Bool.{Bool, true, false, not, _&&_, _||_}
 use mathlib.Core.List.{List, [], _∷_}
 use lib.Dec.{eqb}
 use lib.Chars.{codes}
 use Rattle.std.proofs.shelf.Tests.{eqb-true, and-parts, or-cases, not-true, false≢true}
-use mathlib.Core.Logic.{_⊎_, inl, inr, ⊎-elim}
+use mathlib.Core.Logic.{⊎-elim}
 use Rattle.protocol.specs.declared.state.State.{State}
 use Rattle.protocol.specs.declared.state.State.the-variants.{Invalid, Shared, Exclusive, Owned, Modified}
 use Rattle.protocol.specs.States.{valid, exclusive, owned, stateOf}
-use Rattle.protocol.specs.Cells.{among, allowed, Lawful}
-use Rattle.rules.specs.Transactions.{Protocol, heardRS, heardUP, heardTU, gone, afterRS, afterUP, afterTU, afterTI, isO}
+use Rattle.protocol.specs.Cells.{among, Lawful}
+use Rattle.rules.specs.Transactions.{Protocol, heardRS, heardUP, heardTU, afterRS, afterUP, afterTU, afterTI, isO}
 
 -- two seats may stand so at one line
 abbrev pub agree : State → State → Bool
@@ -85,6 +85,9 @@ agree-sym a b e = then (agree a b) (agree b a) (each2 (λ a b. imp (agree a b) (
 pub below-valid : (a b : State) → below a b ≡ true → valid a ≡ true → valid b ≡ true
 below-valid a b p e = then (valid a) (valid b) (then (below a b) (imp (valid a) (valid b)) (each2 (λ a b. imp (below a b) (imp (valid a) (valid b))) refl a b) p) e
 
+pub below-owned : (a b : State) → below a b ≡ true → owned a ≡ true → owned b ≡ true
+below-owned a b p e = then (owned a) (owned b) (then (below a b) (imp (owned a) (owned b)) (each2 (λ a b. imp (below a b) (imp (owned a) (owned b))) refl a b) p) e
+
 pub below-self : (a : State) → below a a ≡ true
 below-self a = each (λ a. below a a) refl a
 
@@ -149,6 +152,10 @@ module _ (cell : Protocol) (law : Lawful cell) where
   pub valid-RS : (r : ℕ) (lone : Bool) → valid (afterRS (cell r) lone) ≡ true
   valid-RS r true = within (λ b. valid (stateOf b)) (cell r 3) (codes "SE") (law r 3) refl
   valid-RS r false = refl
+
+  pub owned-RS : (r : ℕ) (lone : Bool) → owned (afterRS (cell r) lone) ≡ false
+  owned-RS r true = not-true _ (within (λ b. not (owned (stateOf b))) (cell r 3) (codes "SE") (law r 3) refl)
+  owned-RS r false = refl
 
   pub below-UP : (k : ℕ) (s : State) → below (heardUP (cell k) s) s ≡ true
   below-UP k Invalid = refl

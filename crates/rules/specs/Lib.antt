@@ -7,4 +7,6 @@ pub mod Accesses
 pub mod Systems
 pub mod Ledgers
 pub mod Sessions
+pub mod Deciding
 pub mod Coherence
+pub mod Laws

@@ -43,8 +43,7 @@ impl Caches {
         ensures sets { λ _. ⌜ now (self .exit) .sets ≡ now (self .entry) .sets ⌝ }
     {
         let at = self.place_of(line);
-        self.table[seat][at].state = state;
-        self.table[seat][at].words[word] = value;
+        self.table[seat][at].take(state, word, value);
     }
 
     /// The seat's copy of a line is none, and where there was one its place is free.

@@ -1,10 +1,9 @@
 // What is done with the waiting lines: each keeps its place, the oldest leaves first, a new one comes last.
-ghost use Prim.Native.Nat.{ℕ, _+_, _≤_, _<_};
+ghost use Prim.Native.Nat.{_<_};
 ghost use lib.ListN.{length, getD, set};
-ghost use mathlib.Core.List.{List, [], _∷_, _++_};
-ghost use mathlib.Core.Bool.{Bool, true, false};
+ghost use mathlib.Core.List.{[], _∷_, _++_};
+ghost use mathlib.Core.Bool.{false};
 ghost use mathlib.Core.Path.{_≡_};
-ghost use lib.Dec.{ltb};
 ghost use Rattle.std.specs.Options.{Cases as BySome};
 ghost use Rattle.memory.specs.Ages.{blank, Apart, full, holds, Newest, waits, withWords};
 ghost use Rattle.memory.specs.Lines.{wordsInLine};
