@@ -8,6 +8,7 @@ use lib.ListN.{length, replicate}
 use Rattle.std.proofs.shelf.Ways.{tells}
 use Rattle.protocol.specs.Cells.{Lawful, among}
 use Rattle.memory.specs.Lines.{Shaped}
+use Rattle.rules.specs.declared.tally.Tally.{Tally}
 use Rattle.rules.specs.Caches.{fresh}
 use Rattle.rules.specs.Tallies.{blank}
 use Rattle.rules.specs.Systems.{System, opened}
@@ -31,6 +32,6 @@ begins cell law agreed lines shaped =
     opening cell law (listed-some (agreed .sets) (agreed .listed)) (omega arith) lines (record { lines = refl; words = shaped })
 
 -- empty caches and a blank tally are a run just opened
-pub as-opened : (cell : Protocol) (agreed : Agreed) (lines : List (List ℕ)) (caches : Caches) → cachesOf caches ≡ replicate (agreed .seats) (fresh (agreed .sets) 1)
-    → _≡_ {A = System} (record { cell = cell; caches = cachesOf caches; memory = lines; tally = blank; answered = 0 }) (opened cell (agreed .seats) (agreed .sets) lines)
-as-opened cell agreed lines caches e = cc
+pub as-opened : (cell : Protocol) (agreed : Agreed) (lines : List (List ℕ)) (caches : Caches) (tally : Tally) → cachesOf caches ≡ replicate (agreed .seats) (fresh (agreed .sets) 1) → tally ≡ blank
+    → _≡_ {A = System} (record { cell = cell; caches = cachesOf caches; memory = lines; tally = tally; answered = 0 }) (opened cell (agreed .seats) (agreed .sets) lines)
+as-opened cell agreed lines caches tally e t = cc

@@ -1,5 +1,6 @@
 // A run: caches on a bus over a memory, opened with agreed sizes, called, and closed with its ticket.
 mod closed;
+mod place;
 mod replays;
 mod reply;
 mod run;

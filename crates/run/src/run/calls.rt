@@ -5,9 +5,9 @@ ghost use lib.ListN.{length};
 ghost use Rattle.rules.specs.declared.call.Call.the-variants.{Read, Write, Flush, Settle};
 ghost use Rattle.run.specs.Calls.{Called};
 use super::Run;
+use crate::place::Place;
 use crate::reply::Reply;
 use memory::Memory;
-use memory::WORDS_IN_LINE;
 use protocol::Protocol;
 use refusal::Refusal;
 use rules::Record;
@@ -23,9 +23,8 @@ impl<P: Protocol, M: Memory> Run<P, M> {
         ensures { λ r. ⌜ Called cells lines aside (Read seat address (length (now (records .entry)))) (now (self .entry)) (now (self .exit)) (now (records .entry)) (now (records .exit)) r ⌝ }
     {
         self.check(seat, address, records.len())?;
-        let line = address as usize / WORDS_IN_LINE;
-        let word = address as usize % WORDS_IN_LINE;
-        let answer = self.bus.read(seat as usize, line, word, records);
+        let at = Place::of(address);
+        let answer = self.bus.read(seat as usize, at.line, at.word, records);
         self.calls += 1;
         Ok(Reply {
             value: answer.value,
@@ -44,9 +43,9 @@ impl<P: Protocol, M: Memory> Run<P, M> {
         ensures { λ r. ⌜ Called cells lines aside (Write seat address value (length (now (records .entry)))) (now (self .entry)) (now (self .exit)) (now (records .entry)) (now (records .exit)) r ⌝ }
     {
         self.check(seat, address, records.len())?;
-        let line = address as usize / WORDS_IN_LINE;
-        let word = address as usize % WORDS_IN_LINE;
-        let answer = self.bus.write(seat as usize, line, word, value, records);
+        let at = Place::of(address);
+        let answer = self.bus
+            .write(seat as usize, at.line, at.word, value, records);
         self.calls += 1;
         Ok(Reply {
             value: answer.value,
@@ -64,8 +63,8 @@ impl<P: Protocol, M: Memory> Run<P, M> {
         ensures { λ r. ⌜ Called cells lines aside (Flush seat address (length (now (records .entry)))) (now (self .entry)) (now (self .exit)) (now (records .entry)) (now (records .exit)) r ⌝ }
     {
         self.check(seat, address, records.len())?;
-        let line = address as usize / WORDS_IN_LINE;
-        let answer = self.bus.flush(seat as usize, line, records);
+        let at = Place::of(address);
+        let answer = self.bus.flush(seat as usize, at.line, records);
         self.calls += 1;
         Ok(Reply {
             value: answer.value,

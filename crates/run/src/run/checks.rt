@@ -6,8 +6,8 @@ ghost use Rattle.rules.specs.Systems.{dueIn};
 ghost use Rattle.run.specs.Views.{systemOf};
 ghost use Rattle.run.specs.Calls.{accessDue};
 use super::Run;
+use crate::place::Place;
 use memory::Memory;
-use memory::WORDS_IN_LINE;
 use protocol::Protocol;
 use refusal::Refusal;
 
@@ -36,7 +36,7 @@ impl<P: Protocol, M: Memory> Run<P, M> {
         if seat as usize >= self.seats() {
             return Err(Refusal::NoSeat);
         }
-        if address as usize / WORDS_IN_LINE >= self.lines() {
+        if Place::of(address).line >= self.lines() {
             return Err(Refusal::BeyondMemory);
         }
         if places < PLACES_NEEDED {

@@ -3,9 +3,11 @@ use Prim.Native.Nat.{ℕ, _+_, _*_, _/_, _<_, _≤_}
 use native.Mathlib.Omega.{arith}
 use native.Mathlib.Nat.{mod-lt}
 use mathlib.Core.Path.{_≡_, refl, sym, _∙_, ap}
-use lib.ListN.{length, take}
+use lib.ListN.{length}
 use Rattle.std.proofs.shelf.Results.{err-from-errBy}
 use Rattle.rules.specs.declared.call.Call.the-variants.{Flush}
+use Rattle.rules.specs.Accesses.{flushed}
+use Rattle.rules.specs.Systems.{atWork}
 use Rattle.bus.specs.Totals.{total}
 use Rattle.caches.proofs.Places.{caches-long}
 use Rattle.run.specs.Views.{systemOf}
@@ -42,5 +44,5 @@ returns g c =
     let few : c .flush-answer .result .made ≤ length (c .flush-answer .last .records) = omega (arith, enough, c .flush-answer .ensures .reaches .few, c .flush-answer .kept .records) in
     access-call (g .P·Protocol .cells) (g .M·Memory .lines) (g .M·Memory .aside) (Flush (c .args .seat) (c .args .address) (length (c .args .records .now))) (c .args .self .now) _
     (c .flush-answer .result .made) (c .args .records .now) (c .flush-answer .last .records) (c .flush-answer .result .value)
-    refl e (c .flush-answer .ensures .reaches .machine) (c .flush-answer .ensures .reaches .stays .protocol) (c .flush-answer .ensures .reaches .stays .apart) refl few (c .flush-answer .ensures .reaches .rest)
+    refl e (c .flush-answer .ensures .reaches .machine ∙ ap (λ (n : ℕ). flushed (c .args .seat) n (atWork s)) (c .of-at .ensures .line)) (c .flush-answer .ensures .reaches .stays .protocol) (c .flush-answer .ensures .reaches .stays .apart) refl few (c .flush-answer .ensures .reaches .rest)
     (c .flush-answer .ensures .value ∙ sym (made-long (c .flush-answer .result .made) (c .args .records .now) (c .flush-answer .last .records) few))

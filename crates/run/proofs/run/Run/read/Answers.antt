@@ -3,9 +3,15 @@ use Prim.Native.Nat.{ℕ, _+_, _*_, _/_, _<_, _≤_}
 use native.Mathlib.Omega.{arith}
 use native.Mathlib.Nat.{mod-lt}
 use mathlib.Core.Path.{_≡_, refl, sym, _∙_, ap}
-use lib.ListN.{length, take}
+use lib.ListN.{length, getD}
 use Rattle.std.proofs.shelf.Results.{err-from-errBy}
 use Rattle.rules.specs.declared.call.Call.the-variants.{Read}
+use Rattle.rules.specs.Columns.{wordsAt}
+use Rattle.rules.specs.Tallies.{oneRead}
+use Rattle.rules.specs.Machines.{holds, copiesOf}
+use Rattle.rules.specs.Accesses.{counting, fetched}
+use Rattle.rules.specs.Systems.{atWork}
+use Rattle.caches.specs.Views.{cachesOf}
 use Rattle.bus.specs.Totals.{total}
 use Rattle.caches.proofs.Places.{caches-long}
 use Rattle.run.specs.Views.{systemOf}
@@ -30,8 +36,8 @@ read-answer-requires g c κs =
     let few : total (c .args .self .now .bus .tally) ≤ 2048 * c .args .self .now .calls = c .args .self .now .counted in
     record {
       on = omega (arith, on, caches-long (c .args .self .now .bus .caches));
-      there = line-below s (c .args .seat) (c .args .address) (length (c .args .records .now)) e;
-      within = mod-lt (c .args .address) (omega arith);
+      there = rw (c .of-at .ensures .line) (line-below s (c .args .seat) (c .args .address) (length (c .args .records .now)) e);
+      within = rw (c .of-at .ensures .word) (mod-lt (c .args .address) (omega arith));
       places = places-enough s (c .args .seat) (c .args .address) (length (c .args .records .now)) e;
       room = omega (arith, n, few);
     }
@@ -44,5 +50,5 @@ returns g c =
     let few : c .read-answer .result .made ≤ length (c .read-answer .last .records) = omega (arith, enough, c .read-answer .ensures .reaches .few, c .read-answer .kept .records) in
     access-call (g .P·Protocol .cells) (g .M·Memory .lines) (g .M·Memory .aside) (Read (c .args .seat) (c .args .address) (length (c .args .records .now))) (c .args .self .now) _
     (c .read-answer .result .made) (c .args .records .now) (c .read-answer .last .records) (c .read-answer .result .value)
-    refl e (c .read-answer .ensures .reaches .machine) (c .read-answer .ensures .reaches .stays .protocol) (c .read-answer .ensures .reaches .stays .apart) refl few (c .read-answer .ensures .reaches .rest)
-    (c .read-answer .ensures .value)
+    refl e (c .read-answer .ensures .reaches .machine ∙ ap (λ (n : ℕ). counting (oneRead (holds (c .args .seat) n (atWork s))) (fetched (s .cell) (c .args .seat) n (atWork s))) (c .of-at .ensures .line)) (c .read-answer .ensures .reaches .stays .protocol) (c .read-answer .ensures .reaches .stays .apart) refl few (c .read-answer .ensures .reaches .rest)
+    (c .read-answer .ensures .value ∙ ap (λ (n : ℕ). getD (wordsAt (copiesOf n (cachesOf (c .read-answer .last .self .caches))) (c .args .seat)) (c .of-at .result .word) 0) (c .of-at .ensures .line) ∙ ap (λ (o : ℕ). getD (wordsAt (copiesOf (c .args .address / 4) (cachesOf (c .read-answer .last .self .caches))) (c .args .seat)) o 0) (c .of-at .ensures .word))
