@@ -84,6 +84,7 @@ module _ (cell : Protocol) (law : Lawful cell) (agreed : Agreed) (memory : List 
     alone = λ k. promised k .alone;
     accounts = λ k. promised k .accounts;
     reads = a;
+    bottom = b;
     counted = t;
     wrote = w;
     squares = squares (history (length given)) lines bottom tally a b t (agreed .seats) (agreed .sets) (length memory) (ledger (length given)) (since (length given));

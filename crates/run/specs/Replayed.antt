@@ -1,11 +1,13 @@
 -- What a replay gives: the whole promise over a run, from its opening through every call to its closing.
 --
+-- callsOf, repliesOf   the calls and the replies of a list of steps
 -- callAt      the call of a step
 -- Replied     a step was made, and of its reply this holds
 -- history     the run before the first call, and after each
 -- ledger      the ledger beside it, which takes only what opening and the calls were handed
 -- Replayed    the promise over the whole run
 -- stood, ledgerThen   the history and the ledger of a list of calls
+-- Replays     the promise for a protocol and a memory as they were handed in
 use Prim.Native.Nat.{ℕ, _+_, _*_, _<_}
 use mathlib.Core.Path.{_≡_}
 use mathlib.Core.Logic.{_≢_}
@@ -75,8 +77,9 @@ pub record Replayed (z : Sizes) (cell : Protocol) (memory : List (List ℕ)) (hi
   pub alone : (k n i j : ℕ) → exclusive (stateOn (history k) n i) ≡ true → j ≢ i → valid (stateOn (history k) n j) ≡ false
   -- every copy that was filled was displaced, flushed or invalidated, or is held
   pub accounts : (k : ℕ) → history k .tally .fills ≡ history k .tally .displaced + history k .tally .flushed + history k .tally .invalidated + copiesHeld (history k .caches)
-  -- closing gives what the rules' closing of the last run gives
+  -- closing gives what the rules' closing of the last run gives, and memory has settled it
   pub reads : lines ≡ closed (history (length given)) .memory
+  pub bottom : settled ≡ closed (history (length given)) .memory
   pub counted : tally ≡ closed (history (length given)) .tally
   pub wrote : written ≡ closed (history (length given)) .lines
   -- both lists of memory have the ledger's word at every address, and the tally balances
