@@ -3,3 +3,4 @@ pub mod Faults
 pub mod Lines
 pub mod Reading
 pub mod Runs
+pub mod Written
