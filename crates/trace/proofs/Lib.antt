@@ -1,5 +1,8 @@
+pub mod Accessing
+pub mod Choosing
 pub mod Digits
 pub mod Grammars
+pub mod Keeping
 pub mod Naming
 pub mod Parting
 pub mod Running
