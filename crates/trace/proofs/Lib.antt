@@ -1,4 +1,5 @@
 pub mod Accessing
+pub mod Bussing
 pub mod Choosing
 pub mod Digits
 pub mod Grammars
