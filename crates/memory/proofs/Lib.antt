@@ -1,0 +1,5 @@
+pub mod Buffered
+pub mod Covers
+pub mod Cuts
+pub mod Dues
+pub mod Tables

@@ -1,0 +1,5 @@
+pub mod Ages
+pub mod Buffers
+pub mod Lines
+pub mod Waits
+pub mod Words

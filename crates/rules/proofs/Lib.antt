@@ -1,0 +1,15 @@
+pub mod Sessions
+pub mod Tables
+pub mod Seats
+pub mod Lines
+pub mod Turns
+pub mod Sets
+pub mod Caches
+pub mod Machines
+pub mod Steps
+pub mod Accesses
+pub mod Settling
+pub mod Calls
+pub mod Promises
+pub mod Counts
+pub mod Laws

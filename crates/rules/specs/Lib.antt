@@ -1,0 +1,12 @@
+pub mod Columns
+pub mod Transactions
+pub mod Caches
+pub mod Tallies
+pub mod Machines
+pub mod Accesses
+pub mod Systems
+pub mod Ledgers
+pub mod Sessions
+pub mod Deciding
+pub mod Coherence
+pub mod Laws
