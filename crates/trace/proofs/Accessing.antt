@@ -46,8 +46,8 @@ target-grammar : Grammar targetText targetGood targetValue isDigit targetAt
 target-grammar =
     then-grammar (byte-grammar 32)
     (λ _. then-grammar number-grammar
-        (λ seat. then-grammar (byte-grammar 32) (λ _. made-grammar number-grammar (λ _ address. (seat, address))) 0 (omega arith) (λ y r h. all-stop (decimal y ++ r)))
-        (tt, 0) (tt, omega arith) (λ y r h. refl))
+    (λ seat. then-grammar (byte-grammar 32) (λ _. made-grammar number-grammar (λ _ address. (seat, address))) 0 (omega arith) (λ y r h. all-stop (decimal y ++ r)))
+    (tt, 0) (tt, omega arith) (λ y r h. refl))
     (0, (tt, 0)) (omega arith, (tt, omega arith)) (λ y r h. all-stop _)
 
 -- a letter, a seat and an address
@@ -92,10 +92,10 @@ write-grammar : Grammar valuedText valuedGood valuedValue (λ _. false) writeLin
 write-grammar =
     then-grammar (byte-grammar 119)
     (λ _. then-grammar target-grammar
-        (λ at. then-grammar (byte-grammar 32)
-            (λ _. then-grammar number-grammar (λ value. made-grammar (byte-grammar 10) (λ _ _. Write (at .0) (at .1) value)) tt tt (λ y r h. refl))
-            (0, tt) (omega arith, tt) (λ y r h. all-stop _))
-        (tt, (0, tt)) (tt, (omega arith, tt)) (λ y r h. refl))
+    (λ at. then-grammar (byte-grammar 32)
+    (λ _. then-grammar number-grammar (λ value. made-grammar (byte-grammar 10) (λ _ _. Write (at .0) (at .1) value)) tt tt (λ y r h. refl))
+    (0, tt) (omega arith, tt) (λ y r h. all-stop _))
+    (tt, (0, tt)) (tt, (omega arith, tt)) (λ y r h. refl))
     ((tt, (0, (tt, 0))), (tt, (0, tt))) ((tt, (omega arith, (tt, omega arith))), (tt, (omega arith, tt))) (λ y r h. refl)
 
 settle-grammar : Grammar {X = Unit {0} × Unit {0}} (λ _. 115 ∷ (10 ∷ [])) (λ _. Unit {0} × Unit {0}) (λ _ _. Settle) (λ _. false) settleLineAt
@@ -137,8 +137,8 @@ lined-grammar : Grammar linedText linedGood linedValue (λ _. false) lined
 lined-grammar =
     choice-grammar read-grammar
     (choice-grammar write-grammar
-        (choice-grammar flush-grammar settle-grammar 102 (λ x. (targetText (x .1 .0) ++ (10 ∷ []), refl)) not-f) 119
-        (λ x. (targetText (x .1 .0) ++ ((32 ∷ []) ++ (decimal (x .1 .1 .1 .0) ++ (10 ∷ []))), refl)) not-w)
+    (choice-grammar flush-grammar settle-grammar 102 (λ x. (targetText (x .1 .0) ++ (10 ∷ []), refl)) not-f) 119
+    (λ x. (targetText (x .1 .0) ++ ((32 ∷ []) ++ (decimal (x .1 .1 .1 .0) ++ (10 ∷ []))), refl)) not-w)
     114 (λ x. (targetText (x .1 .0) ++ (10 ∷ []), refl)) not-r
 
 -- without its letter a settle line is stuck where it begins

@@ -83,8 +83,8 @@ second-grammar : Grammar secondedText secondedGood secondedValue (λ _. false) s
 second-grammar =
     then-grammar (byte-grammar 32)
     (λ _. then-grammar number-grammar
-        (λ below. then-grammar spaced-word-grammar (λ word. made-grammar (byte-grammar 10) (λ _ _. Some (record { below = below; word = word }))) tt tt (λ y r h. refl))
-        ((tt, 120 ∷ []), tt) ((tt, (omega arith, refl)), tt) (λ y r h. refl))
+    (λ below. then-grammar spaced-word-grammar (λ word. made-grammar (byte-grammar 10) (λ _ _. Some (record { below = below; word = word }))) tt tt (λ y r h. refl))
+    ((tt, 120 ∷ []), tt) ((tt, (omega arith, refl)), tt) (λ y r h. refl))
     (0, ((tt, 120 ∷ []), tt)) (omega arith, ((tt, (omega arith, refl)), tt)) (λ y r h. all-stop _)
 
 abbrev tailedText : Seconded ⊎ Unit {0} → List ℕ
@@ -121,12 +121,12 @@ linedGood x =
 -- the value of the whole line, by where its parts begin
 abbrev built : Lined → ℕ → ℕ → ℕ → ℕ → Option Second → BusLine
 built x a b c d s =
-    record
-    { seats = record { value = x .1 .0 .1; byte = a }
-    ; sets = record { value = x .1 .1 .0 .1; byte = b }
-    ; lines = record { value = x .1 .1 .1 .0 .1; byte = c }
-    ; first = spanOf (x .1 .1 .1 .1 .0 .1) d
-    ; second = s
+    record {
+      seats = record { value = x .1 .0 .1; byte = a };
+      sets = record { value = x .1 .1 .0 .1; byte = b };
+      lines = record { value = x .1 .1 .1 .0 .1; byte = c };
+      first = spanOf (x .1 .1 .1 .1 .0 .1) d;
+      second = s;
     }
 
 -- each part begins where the one before it ends
@@ -149,14 +149,14 @@ lined-grammar : Grammar linedText linedGood linedValue (λ _. false) busAt
 lined-grammar =
     then-grammar bus-word-grammar
     (λ _. then-grammar numeral-grammar
-        (λ seats. then-grammar numeral-grammar
-            (λ sets. then-grammar numeral-grammar
-                (λ lines. then-grammar spaced-word-grammar
-                    (λ first. made-grammar tail-grammar (λ _ second. record { seats = seats; sets = sets; lines = lines; first = first; second = second }))
-                    (inr tt) tt (λ y r h. tail-apart y r))
-                ((tt, 120 ∷ []), inr tt) ((tt, (omega arith, refl)), tt) (λ y r h. refl))
-            ((tt, 0), ((tt, 120 ∷ []), inr tt)) ((tt, omega arith), ((tt, (omega arith, refl)), tt)) (λ y r h. refl))
-        ((tt, 0), ((tt, 0), ((tt, 120 ∷ []), inr tt))) ((tt, omega arith), ((tt, omega arith), ((tt, (omega arith, refl)), tt))) (λ y r h. refl))
+    (λ seats. then-grammar numeral-grammar
+    (λ sets. then-grammar numeral-grammar
+    (λ lines. then-grammar spaced-word-grammar
+    (λ first. made-grammar tail-grammar (λ _ second. record { seats = seats; sets = sets; lines = lines; first = first; second = second }))
+    (inr tt) tt (λ y r h. tail-apart y r))
+    ((tt, 120 ∷ []), inr tt) ((tt, (omega arith, refl)), tt) (λ y r h. refl))
+    ((tt, 0), ((tt, 120 ∷ []), inr tt)) ((tt, omega arith), ((tt, (omega arith, refl)), tt)) (λ y r h. refl))
+    ((tt, 0), ((tt, 0), ((tt, 120 ∷ []), inr tt))) ((tt, omega arith), ((tt, omega arith), ((tt, (omega arith, refl)), tt))) (λ y r h. refl))
     ((tt, 0), ((tt, 0), ((tt, 0), ((tt, 120 ∷ []), inr tt))))
     ((tt, omega arith), ((tt, omega arith), ((tt, omega arith), ((tt, (omega arith, refl)), tt)))) (λ y r h. refl)
 
@@ -210,10 +210,10 @@ tail-lined (Some x) g = (inl (tt, (x .below, ((tt, x .word), tt))), refl, (tt, (
 
 bus-lined : (z : BusText) → SoundBus z → (x : Lined) × (toBus x ≡ z) × linedGood x
 bus-lined z g =
-    let y = tail-lined (z .second) (g .4) in
-    ( ((tt, (tt, tt)), ((tt, z .seats), ((tt, z .sets), ((tt, z .lines), ((tt, z .first), y .0)))))
-    , ap (λ (o : Option SecondText). record { seats = z .seats; sets = z .sets; lines = z .lines; first = z .first; second = o }) (y .1)
-    , ((tt, (tt, tt)), ((tt, g .0), ((tt, g .1), ((tt, g .2), ((tt, g .3), y .2)))))
+    let y = tail-lined (z .second) (g .4) in (
+      ((tt, (tt, tt)), ((tt, z .seats), ((tt, z .sets), ((tt, z .lines), ((tt, z .first), y .0))))),
+      ap (λ (o : Option SecondText). record { seats = z .seats; sets = z .sets; lines = z .lines; first = z .first; second = o }) (y .1),
+      ((tt, (tt, tt)), ((tt, g .0), ((tt, g .1), ((tt, g .2), ((tt, g .3), y .2))))),
     )
 
 pub bus-grammar : Grammar writtenBus SoundBus busLineOf (λ _. false) busAt

@@ -25,9 +25,8 @@ first-alike [] c v w = refl
 first-alike (d ∷ u) c v w = refl
 
 module _ {X Y A : Type 0} {T : X → List ℕ} {G : X → Type 0} {val : X → ℕ → A} {U : Y → List ℕ} {F : Y → Type 0} {value : Y → ℕ → A} {test : ℕ → Bool}
-  {p q : List ℕ → ℕ → Outcome A} (P : Grammar T G val test p) (Q : Grammar U F value test q) (b : ℕ) (leads : (x : X) → (w : List ℕ) × (T x ≡ b ∷ w))
-  (others : (y : Y) → (c : ℕ) × (w : List ℕ) × (U y ≡ c ∷ w) × (eqb c b ≡ false)) where
-
+    {p q : List ℕ → ℕ → Outcome A} (P : Grammar T G val test p) (Q : Grammar U F value test q) (b : ℕ) (leads : (x : X) → (w : List ℕ) × (T x ≡ b ∷ w))
+    (others : (y : Y) → (c : ℕ) × (w : List ℕ) × (U y ≡ c ∷ w) × (eqb c b ≡ false)) where
   takes-first : (t : List ℕ) (i : ℕ) → isByte b (nextAt t i) ≡ true → cond (isByte b (nextAt t i)) (p t i) (q t i) ≡ p t i
   takes-first t i h = cond-true (isByte b (nextAt t i)) (p t i) (q t i) h
 
@@ -71,31 +70,31 @@ module _ {X Y A : Type 0} {T : X → List ℕ} {G : X → Type 0} {val : X → �
   stuck-first : (t : List ℕ) (i : ℕ) (s : List ℕ) (k : ℕ) → From t i s → isByte b (nextAt t i) ≡ true → Stuck T G p i s k
       → Stuck (oneOf T U) (oneOf G F) (λ t i. cond (isByte b (nextAt t i)) (p t i) (q t i)) i s k
   stuck-first t i s k e y x =
-      record
-      { before = x .before
-      ; rest = x .rest
-      ; cut = x .cut
-      ; place = x .place
-      ; form = inl (x .form)
-      ; sound = x .sound
-      ; more = x .more
-      ; begins = x .begins
-      ; lasting = λ c v w u r f. takes-first u i (test-alike t u i s (x .before) (x .rest) c v w e (x .cut) r f ∙ y) ∙ x .lasting c v w u r f
+      record {
+        before = x .before;
+        rest = x .rest;
+        cut = x .cut;
+        place = x .place;
+        form = inl (x .form);
+        sound = x .sound;
+        more = x .more;
+        begins = x .begins;
+        lasting = λ c v w u r f. takes-first u i (test-alike t u i s (x .before) (x .rest) c v w e (x .cut) r f ∙ y) ∙ x .lasting c v w u r f;
       }
 
   stuck-second : (t : List ℕ) (i : ℕ) (s : List ℕ) (k : ℕ) → From t i s → isByte b (nextAt t i) ≡ false → Stuck U F q i s k
       → Stuck (oneOf T U) (oneOf G F) (λ t i. cond (isByte b (nextAt t i)) (p t i) (q t i)) i s k
   stuck-second t i s k e n x =
-      record
-      { before = x .before
-      ; rest = x .rest
-      ; cut = x .cut
-      ; place = x .place
-      ; form = inr (x .form)
-      ; sound = x .sound
-      ; more = x .more
-      ; begins = x .begins
-      ; lasting = λ c v w u r f. takes-second u i (test-alike t u i s (x .before) (x .rest) c v w e (x .cut) r f ∙ n) ∙ x .lasting c v w u r f
+      record {
+        before = x .before;
+        rest = x .rest;
+        cut = x .cut;
+        place = x .place;
+        form = inr (x .form);
+        sound = x .sound;
+        more = x .more;
+        begins = x .begins;
+        lasting = λ c v w u r f. takes-second u i (test-alike t u i s (x .before) (x .rest) c v w e (x .cut) r f ∙ n) ∙ x .lasting c v w u r f;
       }
 
   choice-stuck : (t : List ℕ) (i : ℕ) (s : List ℕ) (k : ℕ) → From t i s → cond (isByte b (nextAt t i)) (p t i) (q t i) ≡ Err (Form k)

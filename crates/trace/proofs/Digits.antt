@@ -58,21 +58,21 @@ pub record Cut (p : ℕ → Bool) (bs : List ℕ) : Type 0 where
 cut-yes : (p : ℕ → Bool) (b : ℕ) (bs : List ℕ) → p b ≡ true → Cut p bs → Cut p (b ∷ bs)
 cut-yes p b bs h c =
     let e = front-yes p b bs h in
-    record
-    { rest = c .rest
-    ; whole = ap (λ (x : List ℕ). b ∷ x) (c .whole) ∙ ap (λ (x : List ℕ). x ++ c .rest) (sym e)
-    ; ends = c .ends
-    ; pass = ap (allPass p) e ∙ and-from (p b) (allPass p (front p bs)) h (c .pass)
+    record {
+      rest = c .rest;
+      whole = ap (λ (x : List ℕ). b ∷ x) (c .whole) ∙ ap (λ (x : List ℕ). x ++ c .rest) (sym e);
+      ends = c .ends;
+      pass = ap (allPass p) e ∙ and-from (p b) (allPass p (front p bs)) h (c .pass);
     }
 
 cut-no : (p : ℕ → Bool) (b : ℕ) (bs : List ℕ) → p b ≡ false → Cut p (b ∷ bs)
 cut-no p b bs h =
     let e = front-no p b bs h in
-    record
-    { rest = b ∷ bs
-    ; whole = ap (λ (x : List ℕ). x ++ (b ∷ bs)) (sym e)
-    ; ends = not-from-false (p b) h
-    ; pass = ap (allPass p) e
+    record {
+      rest = b ∷ bs;
+      whole = ap (λ (x : List ℕ). x ++ (b ∷ bs)) (sym e);
+      ends = not-from-false (p b) h;
+      pass = ap (allPass p) e;
     }
 
 pub cuts : (p : ℕ → Bool) (bs : List ℕ) → Cut p bs
@@ -131,10 +131,10 @@ digits-ok (d ∷ []) i n h =
 digits-ok (d ∷ (e ∷ ds)) i n h =
     ⊎-elim
     (λ (z : eqb d 48 ≡ true).
-        absurd (let y : _≡_ {A = ℕ} 0 1 = cc (cond-true (eqb d 48) (Err (Form (i + 1))) (keptFault (fitting (d ∷ (e ∷ ds)) i)) z) in omega arith))
+    absurd (let y : _≡_ {A = ℕ} 0 1 = cc (cond-true (eqb d 48) (Err (Form (i + 1))) (keptFault (fitting (d ∷ (e ∷ ds)) i)) z) in omega arith))
     (λ (z : eqb d 48 ≡ false).
-        let f = fitting-ok (d ∷ (e ∷ ds)) i n (sym (cond-false (eqb d 48) (Err (Form (i + 1))) (keptFault (fitting (d ∷ (e ∷ ds)) i)) z) ∙ h) in
-        record { some = omega arith; leads = λ y. absurd (eqb-false d 48 z y); value = f .0; fits = f .1 })
+    let f = fitting-ok (d ∷ (e ∷ ds)) i n (sym (cond-false (eqb d 48) (Err (Form (i + 1))) (keptFault (fitting (d ∷ (e ∷ ds)) i)) z) ∙ h) in
+    record { some = omega arith; leads = λ y. absurd (eqb-false d 48 z y); value = f .0; fits = f .1 })
     (cases-bool (eqb d 48))
 
 -- they are what `decimal` writes
@@ -160,8 +160,8 @@ digits-wrong (d ∷ []) i k h = absurd (not-form (d ∷ []) i k h)
 digits-wrong (d ∷ (e ∷ ds)) i k h =
     ⊎-elim
     (λ (z : eqb d 48 ≡ true).
-        let q : k ≡ i + 1 = cc (cond-true (eqb d 48) (Err (Form (i + 1))) (keptFault (fitting (d ∷ (e ∷ ds)) i)) z) in
-        leading-zero (eqb-true d 48 z) q)
+    let q : k ≡ i + 1 = cc (cond-true (eqb d 48) (Err (Form (i + 1))) (keptFault (fitting (d ∷ (e ∷ ds)) i)) z) in
+    leading-zero (eqb-true d 48 z) q)
     (λ (z : eqb d 48 ≡ false).
-        absurd (not-form (d ∷ (e ∷ ds)) i k (sym (cond-false (eqb d 48) (Err (Form (i + 1))) (keptFault (fitting (d ∷ (e ∷ ds)) i)) z) ∙ h)))
+    absurd (not-form (d ∷ (e ∷ ds)) i k (sym (cond-false (eqb d 48) (Err (Form (i + 1))) (keptFault (fitting (d ∷ (e ∷ ds)) i)) z) ∙ h)))
     (cases-bool (eqb d 48))

@@ -17,8 +17,7 @@ use Rattle.trace.proofs.Tokens.{same-read}
 use Rattle.trace.proofs.Accessing.{all-stop}
 
 module _ {X A : Type 0} {T : X → List ℕ} {G : X → Type 0} {val : X → ℕ → A} {p : List ℕ → ℕ → Outcome A} (P : Grammar T G val (λ _. false) p) (t : List ℕ) (i : ℕ)
-  (within : i ≤ length t) where
-
+    (within : i ≤ length t) where
   read-back : (r : Result A LineFault) (j : ℕ) → Reads (p t i) i r j → (x : X) → G x → Stands t i (T x) → (r ≡ Ok (val x i)) × (j ≡ i + length (T x))
   read-back (Ok a) j h x g s =
       let q = same-read (a, j) (val x i, i + length (T x)) (sym h ∙ P .back x g t i (s .0) (s .1) (all-stop (s .0))) in
@@ -44,16 +43,16 @@ module _ {X A : Type 0} {T : X → List ℕ} {G : X → Type 0} {val : X → ℕ
   stuck-front : (k : ℕ) → Stuck T G p i (drop i t) k → Front T G t i k
   stuck-front k x =
       let n : k - i ≡ length (x .before) = omega (arith, x .place) in
-      record
-      { from = omega (arith, x .place)
-      ; to = omega (arith, x .place, length-left k x, within)
-      ; line = x .form
-      ; sound = x .sound
-      ; agrees =
-          ap (λ (m : ℕ). take m (drop i t)) n
-          ∙ (ap (take (length (x .before))) (x .cut) ∙ (take-at (x .before) (x .rest) (length (x .before)) refl
-          ∙ (sym (take-at (x .before) (x .more) (length (x .before)) refl)
-          ∙ (ap (take (length (x .before))) (sym (x .begins)) ∙ ap (λ (m : ℕ). take m (T (x .form))) (sym n)))))
+      record {
+        from = omega (arith, x .place);
+        to = omega (arith, x .place, length-left k x, within);
+        line = x .form;
+        sound = x .sound;
+        agrees =
+            ap (λ (m : ℕ). take m (drop i t)) n
+            ∙ (ap (take (length (x .before))) (x .cut) ∙ (take-at (x .before) (x .rest) (length (x .before)) refl
+            ∙ (sym (take-at (x .before) (x .more) (length (x .before)) refl)
+            ∙ (ap (take (length (x .before))) (sym (x .begins)) ∙ ap (λ (m : ℕ). take m (T (x .form))) (sym n)))));
       }
 
   -- the byte there, and what a sound line with it would be
@@ -64,10 +63,10 @@ module _ {X A : Type 0} {T : X → List ℕ} {G : X → Type 0} {val : X → ℕ
       let w = drop ((k + 1) - i) (T y) in
       let c : drop i t ≡ (x .before ++ (b ∷ [])) ++ v = x .cut ∙ (ap (λ (z : List ℕ). x .before ++ z) e ∙ sym (append-assoc (x .before) (b ∷ []) v)) in
       let m : x .before ++ (b ∷ []) ≡ take ((k + 1) - i) (T y) =
-          sym (ap (λ (z : List ℕ). take ((k + 1) - i) z) c ∙ take-at (x .before ++ (b ∷ [])) v ((k + 1) - i) (sym n)) ∙ f .agrees
+      sym (ap (λ (z : List ℕ). take ((k + 1) - i) z) c ∙ take-at (x .before ++ (b ∷ [])) v ((k + 1) - i) (sym n)) ∙ f .agrees
       in
       let s : T y ≡ x .before ++ (b ∷ w) =
-          sym (take-append-drop ((k + 1) - i) (T y)) ∙ (ap (λ (z : List ℕ). z ++ w) (sym m) ∙ append-assoc (x .before) (b ∷ []) w)
+      sym (take-append-drop ((k + 1) - i) (T y)) ∙ (ap (λ (z : List ℕ). z ++ w) (sym m) ∙ append-assoc (x .before) (b ∷ []) w)
       in
       let u = take i t ++ T y in
       let d : From u i (T y) = drop-at (take i t) (T y) i (length-take-le i t within) in
@@ -85,9 +84,9 @@ module _ {X A : Type 0} {T : X → List ℕ} {G : X → Type 0} {val : X → ℕ
 
   pub keeps-faith : (r : Result A LineFault) (j : ℕ) → Reads (p t i) i r j → Faithful T G val t i r j
   keeps-faith r j h =
-      record
-      { back = read-back r j h
-      ; stands = read-stands r j h
-      ; reaches = λ k e. stuck-front k (stuck-at r j h k e)
-      ; furthest = λ k e l f. let x = stuck-at r j h k e in farthest k x (x .rest) refl (some-left k x l) f
+      record {
+        back = read-back r j h;
+        stands = read-stands r j h;
+        reaches = λ k e. stuck-front k (stuck-at r j h k e);
+        furthest = λ k e l f. let x = stuck-at r j h k e in farthest k x (x .rest) refl (some-left k x l) f;
       }

@@ -47,47 +47,47 @@ module _ (b : ℕ) where
   byte-passes t i (c ∷ s) j e h =
       ⊎-elim
       (λ (q : eqb c b ≡ true).
-          let p : j ≡ i + 1 = ap (λ (x : Unit {0} × ℕ). x .1) (same-read (tt, j) (tt, i + 1) (sym h ∙ byte-is b t i (byte-test b t i (c ∷ s) e ∙ q))) in
-          record { form = tt; rest = s; sound = tt; means = refl; cut = ap (λ (x : ℕ). x ∷ s) (eqb-true c b q); place = p; ends = all s })
+      let p : j ≡ i + 1 = ap (λ (x : Unit {0} × ℕ). x .1) (same-read (tt, j) (tt, i + 1) (sym h ∙ byte-is b t i (byte-test b t i (c ∷ s) e ∙ q))) in
+      record { form = tt; rest = s; sound = tt; means = refl; cut = ap (λ (x : ℕ). x ∷ s) (eqb-true c b q); place = p; ends = all s })
       (λ (q : eqb c b ≡ false). absurd (let z : _≡_ {A = ℕ} 0 1 = cc (byte-not b t i (byte-test b t i (c ∷ s) e ∙ q)) in omega arith))
       (cases-bool (eqb c b))
-      where
-        all : (s : List ℕ) → stops (λ _. false) s ≡ true
-        all [] = refl
-        all (x ∷ xs) = refl
+    where
+      all : (s : List ℕ) → stops (λ _. false) s ≡ true
+      all [] = refl
+      all (x ∷ xs) = refl
 
   byte-stuck : (t : List ℕ) (i : ℕ) (s : List ℕ) (k : ℕ) → From t i s → byteAt b t i ≡ Err (Form k) → Stuck {X = Unit {0}} (λ _. b ∷ []) (λ _. Unit {0}) (byteAt b) i s k
   byte-stuck t i [] k e h =
       let p : k ≡ i = cc (byte-not b t i (byte-test b t i [] e)) in
-      record
-      { before = []
-      ; rest = []
-      ; cut = refl
-      ; place = omega (arith, p)
-      ; form = tt
-      ; sound = tt
-      ; more = b ∷ []
-      ; begins = refl
-      ; lasting = λ c v w u r f. absurd (let z : _≡_ {A = ℕ} 0 1 = cc in omega arith)
+      record {
+        before = [];
+        rest = [];
+        cut = refl;
+        place = omega (arith, p);
+        form = tt;
+        sound = tt;
+        more = b ∷ [];
+        begins = refl;
+        lasting = λ c v w u r f. absurd (let z : _≡_ {A = ℕ} 0 1 = cc in omega arith);
       }
   byte-stuck t i (c ∷ s) k e h =
       ⊎-elim
       (λ (q : eqb c b ≡ true). absurd (let z : _≡_ {A = ℕ} 0 1 = cc (byte-is b t i (byte-test b t i (c ∷ s) e ∙ q)) in omega arith))
       (λ (q : eqb c b ≡ false).
-          let p : k ≡ i = cc (byte-not b t i (byte-test b t i (c ∷ s) e ∙ q)) in
-          record
-          { before = []
-          ; rest = c ∷ s
-          ; cut = refl
-          ; place = omega (arith, p)
-          ; form = tt
-          ; sound = tt
-          ; more = b ∷ []
-          ; begins = refl
-          ; lasting = λ d v w u r f.
-              let m : c ≡ d = cc in
-              byte-not b u i (byte-test b u i (d ∷ w) f ∙ (ap (λ (x : ℕ). eqb x b) (sym m) ∙ q)) ∙ ap (λ (x : ℕ). Err (Form x)) (sym p)
-          })
+      let p : k ≡ i = cc (byte-not b t i (byte-test b t i (c ∷ s) e ∙ q)) in
+      record {
+        before = [];
+        rest = c ∷ s;
+        cut = refl;
+        place = omega (arith, p);
+        form = tt;
+        sound = tt;
+        more = b ∷ [];
+        begins = refl;
+        lasting = λ d v w u r f.
+            let m : c ≡ d = cc in
+            byte-not b u i (byte-test b u i (d ∷ w) f ∙ (ap (λ (x : ℕ). eqb x b) (sym m) ∙ q)) ∙ ap (λ (x : ℕ). Err (Form x)) (sym p);
+      })
       (cases-bool (eqb c b))
 
   pub byte-grammar : Grammar {X = Unit {0}} (λ _. b ∷ []) (λ _. Unit {0}) (λ _ _. tt {0}) (λ _. false) (byteAt b)
@@ -124,14 +124,14 @@ number-passes t i s a j e h =
     let o = up-ok (i + length ds) (numberOf ds i) a j (sym (number-from t i s e) ∙ h) in
     let d = digits-ok ds i a (o .0) in
     let w : decimal a ≡ ds = digits-written ds a (c .pass) d in
-    record
-    { form = a
-    ; rest = c .rest
-    ; sound = d .fits
-    ; means = refl
-    ; cut = c .whole ∙ ap (λ (x : List ℕ). x ++ c .rest) (sym w)
-    ; place = o .1 ∙ ap (λ (x : List ℕ). i + length x) (sym w)
-    ; ends = c .ends
+    record {
+      form = a;
+      rest = c .rest;
+      sound = d .fits;
+      means = refl;
+      cut = c .whole ∙ ap (λ (x : List ℕ). x ++ c .rest) (sym w);
+      place = o .1 ∙ ap (λ (x : List ℕ). i + length x) (sym w);
+      ends = c .ends;
     }
 
 abbrev NumberStuck : ℕ → List ℕ → ℕ → Type 0
@@ -140,38 +140,38 @@ NumberStuck i s k = Stuck decimal (λ n. n < 2 ^ 32) numberAt i s k
 -- no byte of the run stands here
 no-digit : (i : ℕ) (s : List ℕ) (k : ℕ) → stops isDigit s ≡ true → k ≡ i → NumberStuck i s k
 no-digit i s k stop e =
-    record
-    { before = []
-    ; rest = s
-    ; cut = refl
-    ; place = omega (arith, e)
-    ; form = 0
-    ; sound = omega arith
-    ; more = decimal 0
-    ; begins = refl
-    ; lasting = λ b v w u r f.
-        let h : stops isDigit (b ∷ w) ≡ true = subst (λ (x : List ℕ). stops isDigit x ≡ true) r stop in
-        number-by u i (b ∷ w) [] f (front-stops isDigit (b ∷ w) h) ∙ ap (λ (x : ℕ). Err (Form x)) (sym e)
+    record {
+      before = [];
+      rest = s;
+      cut = refl;
+      place = omega (arith, e);
+      form = 0;
+      sound = omega arith;
+      more = decimal 0;
+      begins = refl;
+      lasting = λ b v w u r f.
+          let h : stops isDigit (b ∷ w) ≡ true = subst (λ (x : List ℕ). stops isDigit x ≡ true) r stop in
+          number-by u i (b ∷ w) [] f (front-stops isDigit (b ∷ w) h) ∙ ap (λ (x : ℕ). Err (Form x)) (sym e);
     }
 
 -- a digit stands behind a leading zero
 zero-led : (i : ℕ) (d : ℕ) (ds : List ℕ) (k : ℕ) → isDigit d ≡ true → k ≡ i + 1 → NumberStuck i (48 ∷ (d ∷ ds)) k
 zero-led i d ds k digit e =
-    record
-    { before = 48 ∷ []
-    ; rest = d ∷ ds
-    ; cut = refl
-    ; place = e
-    ; form = 0
-    ; sound = omega arith
-    ; more = []
-    ; begins = decimal-digit 0 (omega arith)
-    ; lasting = λ b v w u r f.
-        let m : d ≡ b = cc in
-        let q : front isDigit (48 ∷ (b ∷ w)) ≡ 48 ∷ (b ∷ front isDigit w) =
-            front-yes isDigit 48 (b ∷ w) refl ∙ ap (λ (x : List ℕ). 48 ∷ x) (front-yes isDigit b w (ap isDigit (sym m) ∙ digit))
-        in
-        number-by u i (48 ∷ (b ∷ w)) (48 ∷ (b ∷ front isDigit w)) f q ∙ ap (λ (x : ℕ). Err (Form x)) (sym e)
+    record {
+      before = 48 ∷ [];
+      rest = d ∷ ds;
+      cut = refl;
+      place = e;
+      form = 0;
+      sound = omega arith;
+      more = [];
+      begins = decimal-digit 0 (omega arith);
+      lasting = λ b v w u r f.
+          let m : d ≡ b = cc in
+          let q : front isDigit (48 ∷ (b ∷ w)) ≡ 48 ∷ (b ∷ front isDigit w) =
+          front-yes isDigit 48 (b ∷ w) refl ∙ ap (λ (x : List ℕ). 48 ∷ x) (front-yes isDigit b w (ap isDigit (sym m) ∙ digit))
+          in
+          number-by u i (48 ∷ (b ∷ w)) (48 ∷ (b ∷ front isDigit w)) f q ∙ ap (λ (x : ℕ). Err (Form x)) (sym e);
     }
 
 number-wrong : (i : ℕ) (s ds rest : List ℕ) (k : ℕ) → s ≡ ds ++ rest → stops isDigit rest ≡ true → allPass isDigit ds ≡ true → WrongDigits i ds k → NumberStuck i s k
@@ -208,14 +208,14 @@ word-read : (t : List ℕ) (i : ℕ) (s ws rest : List ℕ) (a : Word) (j : ℕ)
 word-read t i s [] rest a j cut stop pass h = absurd (let z : _≡_ {A = ℕ} 0 1 = cc in omega arith)
 word-read t i s (b ∷ bs) rest a j cut stop pass h =
     let q = same-read (a, j) (spanOf (b ∷ bs) i, i + length (b ∷ bs)) (sym h) in
-    record
-    { form = b ∷ bs
-    ; rest = rest
-    ; sound = (omega arith, pass)
-    ; means = ap (λ (x : Word × ℕ). x .0) q
-    ; cut = cut
-    ; place = ap (λ (x : Word × ℕ). x .1) q
-    ; ends = stop
+    record {
+      form = b ∷ bs;
+      rest = rest;
+      sound = (omega arith, pass);
+      means = ap (λ (x : Word × ℕ). x .0) q;
+      cut = cut;
+      place = ap (λ (x : Word × ℕ). x .1) q;
+      ends = stop;
     }
 
 word-passes : (t : List ℕ) (i : ℕ) (s : List ℕ) (a : Word) (j : ℕ) → From t i s → wordAt t i ≡ Ok (a, j) → Passed (λ w. w) IsWord spanOf inWord i s a j
@@ -229,18 +229,18 @@ WordStuck i s k = Stuck (λ w. w) IsWord wordAt i s k
 word-wrong : (i : ℕ) (s ws rest : List ℕ) (k : ℕ) → s ≡ ws ++ rest → stops inWord rest ≡ true → wordOf ws i ≡ Err (Form k) → WordStuck i s k
 word-wrong i s [] rest k cut stop h =
     let e : k ≡ i = cc in
-    record
-    { before = []
-    ; rest = s
-    ; cut = refl
-    ; place = omega (arith, e)
-    ; form = 120 ∷ []
-    ; sound = (omega arith, refl)
-    ; more = 120 ∷ []
-    ; begins = refl
-    ; lasting = λ b v w u r f.
-        let g : stops inWord (b ∷ w) ≡ true = subst (λ (x : List ℕ). stops inWord x ≡ true) (sym cut ∙ r) stop in
-        word-by u i (b ∷ w) [] f (front-stops inWord (b ∷ w) g) ∙ ap (λ (x : ℕ). Err (Form x)) (sym e)
+    record {
+      before = [];
+      rest = s;
+      cut = refl;
+      place = omega (arith, e);
+      form = 120 ∷ [];
+      sound = (omega arith, refl);
+      more = 120 ∷ [];
+      begins = refl;
+      lasting = λ b v w u r f.
+          let g : stops inWord (b ∷ w) ≡ true = subst (λ (x : List ℕ). stops inWord x ≡ true) (sym cut ∙ r) stop in
+          word-by u i (b ∷ w) [] f (front-stops inWord (b ∷ w) g) ∙ ap (λ (x : ℕ). Err (Form x)) (sym e);
     }
 word-wrong i s (b ∷ bs) rest k cut stop h = absurd (let z : _≡_ {A = ℕ} 0 1 = cc in omega arith)
 

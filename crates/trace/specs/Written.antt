@@ -108,12 +108,12 @@ tailOf (Some x) i = Some (record { below = x .below; word = spanOf (x .word) (i 
 -- the bus line that is read at a place
 abbrev pub busLineOf : BusText → ℕ → BusLine
 busLineOf x i =
-    record
-    { seats = record { value = x .seats; byte = i + 4 }
-    ; sets = record { value = x .sets; byte = setsFrom x i }
-    ; lines = record { value = x .lines; byte = linesFrom x i }
-    ; first = spanOf (x .first) (firstFrom x i)
-    ; second = tailOf (x .second) (belowFrom x i)
+    record {
+      seats = record { value = x .seats; byte = i + 4 };
+      sets = record { value = x .sets; byte = setsFrom x i };
+      lines = record { value = x .lines; byte = linesFrom x i };
+      first = spanOf (x .first) (firstFrom x i);
+      second = tailOf (x .second) (belowFrom x i);
     }
 
 -- these bytes stand in the text from byte i on

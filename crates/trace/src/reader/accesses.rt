@@ -41,7 +41,11 @@ impl Reader<'_> {
         self.byte(b' ')?;
         let value = self.number()?;
         self.byte(b'\n')?;
-        Ok(Access::Write { seat, address, value })
+        Ok(Access::Write {
+            seat,
+            address,
+            value,
+        })
     }
 
     // `f SEAT ADDR`

@@ -18,8 +18,8 @@ returns-in-Break-access c =
 pub returns : need.returns
 returns c =
     let h = c .in-Continue-access .ensures tt .comes in
-    record
-    { reads = h
-    ; faithful = keeps-faith access-grammar (c .args .self .now .text .now) (c .args .self .now .at) (c .args .self .now .within) (Ok (c .in-Continue-access .access)) (c .access-line .last .self .at) h
-    ; text = c .in-Continue-access .ensures tt .text
+    record {
+      reads = h;
+      faithful = keeps-faith access-grammar (c .args .self .now .text .now) (c .args .self .now .at) (c .args .self .now .within) (Ok (c .in-Continue-access .access)) (c .access-line .last .self .at) h;
+      text = c .in-Continue-access .ensures tt .text;
     }

@@ -18,8 +18,8 @@ returns-in-Break-line c =
 pub returns : need.returns
 returns c =
     let h = c .in-Continue-line .ensures tt .comes in
-    record
-    { reads = h
-    ; faithful = keeps-faith bus-grammar (c .args .self .now .text .now) (c .args .self .now .at) (c .args .self .now .within) (Ok (c .in-Continue-line .line)) (c .bus-parts .last .self .at) h
-    ; text = c .in-Continue-line .ensures tt .text
+    record {
+      reads = h;
+      faithful = keeps-faith bus-grammar (c .args .self .now .text .now) (c .args .self .now .at) (c .args .self .now .within) (Ok (c .in-Continue-line .line)) (c .bus-parts .last .self .at) h;
+      text = c .in-Continue-line .ensures tt .text;
     }
