@@ -9,9 +9,10 @@ use lib.ListN.{length}
 use Rattle.std.specs.declared.result.Result.the-variants.{Ok, Err}
 use Rattle.std.proofs.shelf.Tests.{cases-bool, cond-true, cond-false, eq-eqb}
 use Rattle.refusal.specs.Refusals.{first}
-use Rattle.trace.specs.declared.fault.LineFault.the-variants.{Form}
+use Rattle.trace.specs.declared.fault.NumberFault.{NumberFault}
+use Rattle.trace.specs.declared.fault.LineFault.the-variants.{Form, Number}
 use Rattle.trace.specs.Reading.{Outcome, nextAt, isByte}
-use Rattle.trace.proofs.Grammars.{From, stops, Passed, Stuck, Grammar}
+use Rattle.trace.proofs.Grammars.{From, stops, Passed, Reached, Stuck, Large, Grammar}
 use Rattle.trace.proofs.Tokens.{byte-test}
 
 -- by the side of a sum
@@ -67,9 +68,8 @@ module _ {X Y A : Type 0} {T : X → List ℕ} {G : X → Type 0} {val : X → �
       byte-test b u i (before ++ (c ∷ w)) f
       ∙ (ap (isByte b) (first-alike before c w v) ∙ sym (byte-test b t i (before ++ (c ∷ v)) (e ∙ (cut ∙ ap (λ (z : List ℕ). before ++ z) r))))
 
-  stuck-first : (t : List ℕ) (i : ℕ) (s : List ℕ) (k : ℕ) → From t i s → isByte b (nextAt t i) ≡ true → Stuck T G p i s k
-      → Stuck (oneOf T U) (oneOf G F) (λ t i. cond (isByte b (nextAt t i)) (p t i) (q t i)) i s k
-  stuck-first t i s k e y x =
+  abbrev reached-first : (i : ℕ) (s : List ℕ) (k : ℕ) → Reached T G i s k → Reached (oneOf T U) (oneOf G F) i s k
+  reached-first i s k x =
       record {
         before = x .before;
         rest = x .rest;
@@ -79,12 +79,10 @@ module _ {X Y A : Type 0} {T : X → List ℕ} {G : X → Type 0} {val : X → �
         sound = x .sound;
         more = x .more;
         begins = x .begins;
-        lasting = λ c v w u r f. takes-first u i (test-alike t u i s (x .before) (x .rest) c v w e (x .cut) r f ∙ y) ∙ x .lasting c v w u r f;
       }
 
-  stuck-second : (t : List ℕ) (i : ℕ) (s : List ℕ) (k : ℕ) → From t i s → isByte b (nextAt t i) ≡ false → Stuck U F q i s k
-      → Stuck (oneOf T U) (oneOf G F) (λ t i. cond (isByte b (nextAt t i)) (p t i) (q t i)) i s k
-  stuck-second t i s k e n x =
+  abbrev reached-second : (i : ℕ) (s : List ℕ) (k : ℕ) → Reached U F i s k → Reached (oneOf T U) (oneOf G F) i s k
+  reached-second i s k x =
       record {
         before = x .before;
         rest = x .rest;
@@ -94,8 +92,35 @@ module _ {X Y A : Type 0} {T : X → List ℕ} {G : X → Type 0} {val : X → �
         sound = x .sound;
         more = x .more;
         begins = x .begins;
-        lasting = λ c v w u r f. takes-second u i (test-alike t u i s (x .before) (x .rest) c v w e (x .cut) r f ∙ n) ∙ x .lasting c v w u r f;
       }
+
+  stuck-first : (t : List ℕ) (i : ℕ) (s : List ℕ) (k : ℕ) → From t i s → isByte b (nextAt t i) ≡ true → Stuck T G p i s k
+      → Stuck (oneOf T U) (oneOf G F) (λ t i. cond (isByte b (nextAt t i)) (p t i) (q t i)) i s k
+  stuck-first t i s k e y x =
+      record {
+        at = reached-first i s k (x .at);
+        lasting = λ c v w u r f. takes-first u i (test-alike t u i s (x .at .before) (x .at .rest) c v w e (x .at .cut) r f ∙ y) ∙ x .lasting c v w u r f;
+      }
+
+  stuck-second : (t : List ℕ) (i : ℕ) (s : List ℕ) (k : ℕ) → From t i s → isByte b (nextAt t i) ≡ false → Stuck U F q i s k
+      → Stuck (oneOf T U) (oneOf G F) (λ t i. cond (isByte b (nextAt t i)) (p t i) (q t i)) i s k
+  stuck-second t i s k e n x =
+      record {
+        at = reached-second i s k (x .at);
+        lasting = λ c v w u r f. takes-second u i (test-alike t u i s (x .at .before) (x .at .rest) c v w e (x .at .cut) r f ∙ n) ∙ x .lasting c v w u r f;
+      }
+
+  large-first : (i : ℕ) (s : List ℕ) (k : ℕ) → Large T G i s k → Large (oneOf T U) (oneOf G F) i s k
+  large-first i s k x = record { at = reached-first i s k (x .at); over = x .over }
+
+  large-second : (i : ℕ) (s : List ℕ) (k : ℕ) → Large U F i s k → Large (oneOf T U) (oneOf G F) i s k
+  large-second i s k x = record { at = reached-second i s k (x .at); over = x .over }
+
+  choice-large : (t : List ℕ) (i : ℕ) (s : List ℕ) (g : NumberFault) → From t i s → cond (isByte b (nextAt t i)) (p t i) (q t i) ≡ Err (Number g)
+      → Large (oneOf T U) (oneOf G F) i s (g .byte)
+  choice-large t i s g e h =
+      ⊎-elim (λ y. large-first i s (g .byte) (P .large t i s g e (sym (takes-first t i y) ∙ h)))
+      (λ n. large-second i s (g .byte) (Q .large t i s g e (sym (takes-second t i n) ∙ h))) (cases-bool (isByte b (nextAt t i)))
 
   choice-stuck : (t : List ℕ) (i : ℕ) (s : List ℕ) (k : ℕ) → From t i s → cond (isByte b (nextAt t i)) (p t i) (q t i) ≡ Err (Form k)
       → Stuck (oneOf T U) (oneOf G F) (λ t i. cond (isByte b (nextAt t i)) (p t i) (q t i)) i s k
@@ -105,4 +130,4 @@ module _ {X Y A : Type 0} {T : X → List ℕ} {G : X → Type 0} {val : X → �
 
   -- the next byte decides between two readings
   pub choice-grammar : Grammar (oneOf T U) (oneOf G F) (oneOf val value) test (λ t i. cond (isByte b (nextAt t i)) (p t i) (q t i))
-  choice-grammar = record { back = choice-back; passes = choice-passes; stuck = choice-stuck }
+  choice-grammar = record { back = choice-back; passes = choice-passes; stuck = choice-stuck; large = choice-large }

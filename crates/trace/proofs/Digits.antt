@@ -165,3 +165,21 @@ digits-wrong (d ∷ (e ∷ ds)) i k h =
     (λ (z : eqb d 48 ≡ false).
     absurd (not-form (d ∷ (e ∷ ds)) i k (sym (cond-false (eqb d 48) (Err (Form (i + 1))) (keptFault (fitting (d ∷ (e ∷ ds)) i)) z) ∙ h)))
     (cases-bool (eqb d 48))
+
+-- a number that does not fit
+fitting-large : (ds : List ℕ) (i : ℕ) (f : NumberFault) → keptFault (fitting ds i) ≡ Err (Number f) → (f .byte ≡ i) × (2 ^ 32 ≤ valueOn 0 ds)
+fitting-large ds i f h =
+    ⊎-elim (λ (l : valueOn 0 ds < 2 ^ 32). absurd (let z : _≡_ {A = ℕ} 0 1 = cc (fits-small ds i l) in omega arith))
+    (λ (l : 2 ^ 32 ≤ valueOn 0 ds).
+        let q : _≡_ {A = Result ℕ LineFault} (Err (Number (record { byte = i }))) (Err (Number f)) = sym (ap keptFault (fits-large ds i l)) ∙ h in
+        let e : _≡_ {A = NumberFault} (record { byte = i }) f = cc in
+        (sym (ap (λ (z : NumberFault). z .byte) e), l))
+    (cases-lt (valueOn 0 ds) (2 ^ 32))
+
+pub digits-large : (ds : List ℕ) (i : ℕ) (f : NumberFault) → numberOf ds i ≡ Err (Number f) → (f .byte ≡ i) × (2 ^ 32 ≤ valueOn 0 ds)
+digits-large [] i f h = absurd (let z : _≡_ {A = ℕ} 0 1 = cc in omega arith)
+digits-large (d ∷ []) i f h = fitting-large (d ∷ []) i f h
+digits-large (d ∷ (e ∷ ds)) i f h =
+    ⊎-elim (λ (z : eqb d 48 ≡ true). absurd (let y : _≡_ {A = ℕ} 0 1 = cc (cond-true (eqb d 48) (Err (Form (i + 1))) (keptFault (fitting (d ∷ (e ∷ ds)) i)) z) in omega arith))
+    (λ (z : eqb d 48 ≡ false). fitting-large (d ∷ (e ∷ ds)) i f (sym (cond-false (eqb d 48) (Err (Form (i + 1))) (keptFault (fitting (d ∷ (e ∷ ds)) i)) z) ∙ h))
+    (cases-bool (eqb d 48))

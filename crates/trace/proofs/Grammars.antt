@@ -3,7 +3,7 @@
 -- From     what is left of a text from a place on
 -- stops    the next byte, if there is one, does not pass a test: a run that is made of such bytes ends here
 -- Grammar  a reading reads back what is written, passes only what is written, and is stuck no sooner than it must
-use Prim.Native.Nat.{ℕ, _+_}
+use Prim.Native.Nat.{ℕ, _+_, _^_, _≤_}
 use native.Mathlib.Omega.{arith}
 use mathlib.Core.Path.{_≡_, refl, sym, ap, subst, _∙_}
 use mathlib.Core.Bool.{Bool, true, false, not, cond}
@@ -12,9 +12,12 @@ use lib.ListN.{length, drop, length-append}
 use Rattle.std.specs.declared.result.Result.{Result}
 use Rattle.std.specs.declared.result.Result.the-variants.{Ok, Err}
 use Rattle.std.proofs.shelf.Lists.{drop-drop, drop-at}
+use Rattle.trace.specs.declared.fault.NumberFault.{NumberFault}
 use Rattle.trace.specs.declared.fault.LineFault.{LineFault}
 use Rattle.trace.specs.declared.fault.LineFault.the-variants.{Form, Number}
-use Rattle.trace.specs.Reading.{Outcome, andThen}
+use Rattle.trace.specs.declared.part.Part.the-variants as part
+use Rattle.trace.specs.Reading.{Outcome, andThen, valueOn}
+use Rattle.trace.specs.Runs.{run}
 
 -- what is left of the text from a place on
 abbrev pub From : List ℕ → ℕ → List ℕ → Type 0
@@ -43,8 +46,8 @@ pub record Passed {X A : Type 0} (T : X → List ℕ) (G : X → Type 0) (val : 
   pub place : j ≡ i + length (T form)
   pub ends : stops test rest ≡ true
 
--- where a reading is stuck: what lies before is the front of a written form, and what lies behind the byte there does not matter
-pub record Stuck {X A : Type 0} (T : X → List ℕ) (G : X → Type 0) (p : List ℕ → ℕ → Outcome A) (i : ℕ) (s : List ℕ) (k : ℕ) : Type 0 where
+-- how far a reading came: what lies before byte k is the front of a written form
+pub record Reached {X : Type 0} (T : X → List ℕ) (G : X → Type 0) (i : ℕ) (s : List ℕ) (k : ℕ) : Type 0 where
   pub before : List ℕ
   pub rest : List ℕ
   pub cut : s ≡ before ++ rest
@@ -53,13 +56,23 @@ pub record Stuck {X A : Type 0} (T : X → List ℕ) (G : X → Type 0) (p : Lis
   pub sound : G form
   pub more : List ℕ
   pub begins : T form ≡ before ++ more
-  pub lasting : (b : ℕ) (v w t : List ℕ) → rest ≡ b ∷ v → From t i (before ++ (b ∷ w)) → p t i ≡ Err (Form k)
+
+-- where a reading is stuck: what lies behind the byte there does not matter
+pub record Stuck {X A : Type 0} (T : X → List ℕ) (G : X → Type 0) (p : List ℕ → ℕ → Outcome A) (i : ℕ) (s : List ℕ) (k : ℕ) : Type 0 where
+  pub at : Reached T G i s k
+  pub lasting : (b : ℕ) (v w t : List ℕ) → at .rest ≡ b ∷ v → From t i (at .before ++ (b ∷ w)) → p t i ≡ Err (Form k)
+
+-- where a number is too large: its digits begin there
+pub record Large {X : Type 0} (T : X → List ℕ) (G : X → Type 0) (i : ℕ) (s : List ℕ) (k : ℕ) : Type 0 where
+  pub at : Reached T G i s k
+  pub over : 2 ^ 32 ≤ valueOn 0 (run part.Number (at .rest))
 
 -- a reading p of the forms that T writes, those of which G holds, each with the value that it has at its place
 pub record Grammar {X A : Type 0} (T : X → List ℕ) (G : X → Type 0) (val : X → ℕ → A) (test : ℕ → Bool) (p : List ℕ → ℕ → Outcome A) : Type 0 where
   pub back : (x : X) → G x → (t : List ℕ) (i : ℕ) (r : List ℕ) → From t i (T x ++ r) → stops test r ≡ true → p t i ≡ Ok (val x i, i + length (T x))
   pub passes : (t : List ℕ) (i : ℕ) (s : List ℕ) (a : A) (j : ℕ) → From t i s → p t i ≡ Ok (a, j) → Passed T G val test i s a j
   pub stuck : (t : List ℕ) (i : ℕ) (s : List ℕ) (k : ℕ) → From t i s → p t i ≡ Err (Form k) → Stuck T G p i s k
+  pub large : (t : List ℕ) (i : ℕ) (s : List ℕ) (f : NumberFault) → From t i s → p t i ≡ Err (Number f) → Large T G i s (f .byte)
 
 -- an answer of two readings is one of the second, behind what the first passed, or a fault of the first
 data Gone {A B : Type 0} (o : Outcome A) (f : A → ℕ → Outcome B) (z : Outcome B) : Type 0 where
@@ -117,11 +130,9 @@ module _ {X Y A B : Type 0} {T : X → List ℕ} {G : X → Type 0} {val : X →
         | halted f was goes ↦ absurd (no-value f (b, j) goes)
       ]
 
-  -- the first part is stuck
-  first-stuck : (t : List ℕ) (i : ℕ) (s : List ℕ) (k : ℕ) → From t i s → p t i ≡ Err (Form k)
-      → Stuck {X = X × Y} (λ x. T (x .0) ++ U (x .1)) (λ x. G (x .0) × F (x .1)) (λ t i. andThen (p t i) (λ a j. q a t j)) i s k
-  first-stuck t i s k e h =
-      let x = P .stuck t i s k e h in
+  -- the first part came so far
+  abbrev first-reached : (i : ℕ) (s : List ℕ) (k : ℕ) → Reached T G i s k → Reached {X = X × Y} (λ x. T (x .0) ++ U (x .1)) (λ x. G (x .0) × F (x .1)) i s k
+  first-reached i s k x =
       record {
         before = x .before;
         rest = x .rest;
@@ -131,34 +142,66 @@ module _ {X Y A B : Type 0} {T : X → List ℕ} {G : X → Type 0} {val : X →
         sound = (x .sound, good);
         more = x .more ++ U some;
         begins = ap (λ (z : List ℕ). z ++ U some) (x .begins) ∙ append-assoc (x .before) (x .more) (U some);
-        lasting = λ b v w u r f. ap (λ (o : Outcome A). andThen o (λ a j. q a u j)) (x .lasting b v w u r f);
       }
 
-  -- the second part is stuck, behind what the first passed
-  second-stuck : (t : List ℕ) (i : ℕ) (s : List ℕ) (k : ℕ) (a : A) (m : ℕ) → From t i s → p t i ≡ Ok (a, m) → q a t m ≡ Err (Form k)
-      → Stuck {X = X × Y} (λ x. T (x .0) ++ U (x .1)) (λ x. G (x .0) × F (x .1)) (λ t i. andThen (p t i) (λ a j. q a t j)) i s k
-  second-stuck t i s k a m e was goes =
-      let x = P .passes t i s a m e was in
-      let e′ : From t i (T (x .form) ++ x .rest) = e ∙ x .cut in
-      let l : m ≡ i + length (T (x .form)) = x .place in
-      let y = Q a .stuck t m (x .rest) k (subst (λ (k : ℕ). From t k (x .rest)) (sym l) (from-on t i (T (x .form)) (x .rest) e′)) goes in
+  -- the second part came so far, behind what the first passed
+  abbrev second-reached : (i : ℕ) (s : List ℕ) (a : A) (m k : ℕ) (x : Passed T G val test i s a m) → Reached U F m (x .rest) k
+      → Reached {X = X × Y} (λ x. T (x .0) ++ U (x .1)) (λ x. G (x .0) × F (x .1)) i s k
+  second-reached i s a m k x y =
       record {
         before = T (x .form) ++ y .before;
         rest = y .rest;
         cut = x .cut ∙ (ap (λ (z : List ℕ). T (x .form) ++ z) (y .cut) ∙ sym (append-assoc (T (x .form)) (y .before) (y .rest)));
-        place = omega (arith, l, y .place, length-append (T (x .form)) (y .before));
+        place = omega (arith, x .place, y .place, length-append (T (x .form)) (y .before));
         form = (x .form, y .form);
         sound = (x .sound, y .sound);
         more = y .more;
         begins = ap (λ (z : List ℕ). T (x .form) ++ z) (y .begins) ∙ sym (append-assoc (T (x .form)) (y .before) (y .more));
+      }
+
+  -- what is left behind the first part
+  left-behind : (t : List ℕ) (i : ℕ) (s : List ℕ) (a : A) (m : ℕ) → From t i s → (x : Passed T G val test i s a m) → From t m (x .rest)
+  left-behind t i s a m e x = subst (λ (k : ℕ). From t k (x .rest)) (sym (x .place)) (from-on t i (T (x .form)) (x .rest) (e ∙ x .cut))
+
+  first-stuck : (t : List ℕ) (i : ℕ) (s : List ℕ) (k : ℕ) → From t i s → p t i ≡ Err (Form k)
+      → Stuck {X = X × Y} (λ x. T (x .0) ++ U (x .1)) (λ x. G (x .0) × F (x .1)) (λ t i. andThen (p t i) (λ a j. q a t j)) i s k
+  first-stuck t i s k e h =
+      let x = P .stuck t i s k e h in
+      record {
+        at = first-reached i s k (x .at);
+        lasting = λ b v w u r f. ap (λ (o : Outcome A). andThen o (λ a j. q a u j)) (x .lasting b v w u r f);
+      }
+
+  second-stuck : (t : List ℕ) (i : ℕ) (s : List ℕ) (k : ℕ) (a : A) (m : ℕ) → From t i s → p t i ≡ Ok (a, m) → q a t m ≡ Err (Form k)
+      → Stuck {X = X × Y} (λ x. T (x .0) ++ U (x .1)) (λ x. G (x .0) × F (x .1)) (λ t i. andThen (p t i) (λ a j. q a t j)) i s k
+  second-stuck t i s k a m e was goes =
+      let x = P .passes t i s a m e was in
+      let l : m ≡ i + length (T (x .form)) = x .place in
+      let y = Q a .stuck t m (x .rest) k (left-behind t i s a m e x) goes in
+      let before = y .at .before in
+      record {
+        at = second-reached i s a m k x (y .at);
         lasting = λ b v w u r f.
-            let f′ : From u i (T (x .form) ++ (y .before ++ (b ∷ w))) = f ∙ append-assoc (T (x .form)) (y .before) (b ∷ w) in
-            let h : stops test (y .before ++ (b ∷ v)) ≡ true = subst (λ (z : List ℕ). stops test z ≡ true) (y .cut ∙ ap (λ (z : List ℕ). y .before ++ z) r) (x .ends) in
-            let n = P .back (x .form) (x .sound) u i (y .before ++ (b ∷ w)) f′ (stops-alike test (y .before) b v w h) in
-            let g : From u m (y .before ++ (b ∷ w)) = subst (λ (k : ℕ). From u k (y .before ++ (b ∷ w))) (sym l) (from-on u i (T (x .form)) (y .before ++ (b ∷ w)) f′) in
+            let f′ : From u i (T (x .form) ++ (before ++ (b ∷ w))) = f ∙ append-assoc (T (x .form)) before (b ∷ w) in
+            let h : stops test (before ++ (b ∷ v)) ≡ true = subst (λ (z : List ℕ). stops test z ≡ true) (y .at .cut ∙ ap (λ (z : List ℕ). before ++ z) r) (x .ends) in
+            let n = P .back (x .form) (x .sound) u i (before ++ (b ∷ w)) f′ (stops-alike test before b v w h) in
+            let g : From u m (before ++ (b ∷ w)) = subst (λ (k : ℕ). From u k (before ++ (b ∷ w))) (sym l) (from-on u i (T (x .form)) (before ++ (b ∷ w)) f′) in
             ap (λ (o : Outcome A). andThen o (λ a j. q a u j)) n
             ∙ (ap (λ (z : A). q z u (i + length (T (x .form)))) (sym (x .means)) ∙ (ap (λ (k : ℕ). q a u k) (sym l) ∙ y .lasting b v w u r g));
       }
+
+  then-large : (t : List ℕ) (i : ℕ) (s : List ℕ) (g : NumberFault) → From t i s → andThen (p t i) (λ a j. q a t j) ≡ Err (Number g)
+      → Large {X = X × Y} (λ x. T (x .0) ++ U (x .1)) (λ x. G (x .0) × F (x .1)) i s (g .byte)
+  then-large t i s g e h =
+      elim (gone (p t i) (λ a j. q a t j) (Err (Number g)) h) [
+      | onward a m was goes ↦
+          let x = P .passes t i s a m e was in
+          let y = Q a .large t m (x .rest) g (left-behind t i s a m e x) goes in
+          record { at = second-reached i s a m (g .byte) x (y .at); over = y .over }
+      | halted f was goes ↦
+          let x = P .large t i s g e (was ∙ ap (λ (z : LineFault). Err z) (same-fault f (Number g) goes)) in
+          record { at = first-reached i s (g .byte) (x .at); over = x .over }
+      ]
 
   then-stuck : (t : List ℕ) (i : ℕ) (s : List ℕ) (k : ℕ) → From t i s → andThen (p t i) (λ a j. q a t j) ≡ Err (Form k)
       → Stuck {X = X × Y} (λ x. T (x .0) ++ U (x .1)) (λ x. G (x .0) × F (x .1)) (λ t i. andThen (p t i) (λ a j. q a t j)) i s k
@@ -179,6 +222,7 @@ module _ {X Y A B : Type 0} {T : X → List ℕ} {G : X → Type 0} {val : X →
         back = λ x g t i r e h. then-back (x .0) (x .1) (g .0) (g .1) t i r e h;
         passes = then-passes;
         stuck = then-stuck;
+        large = then-large;
       }
 
 module _ {X A B : Type 0} {T : X → List ℕ} {G : X → Type 0} {val : X → ℕ → A} {test : ℕ → Bool} {p : List ℕ → ℕ → Outcome A} (P : Grammar T G val test p) (f : ℕ → A → B) where
@@ -204,17 +248,7 @@ module _ {X A B : Type 0} {T : X → List ℕ} {G : X → Type 0} {val : X → �
   halted-stuck : (t : List ℕ) (i : ℕ) (s : List ℕ) (k : ℕ) → From t i s → p t i ≡ Err (Form k) → Stuck T G (λ t i. andThen (p t i) (λ a j. Ok (f i a, j))) i s k
   halted-stuck t i s k e h =
       let x = P .stuck t i s k e h in
-      record {
-        before = x .before;
-        rest = x .rest;
-        cut = x .cut;
-        place = x .place;
-        form = x .form;
-        sound = x .sound;
-        more = x .more;
-        begins = x .begins;
-        lasting = λ b v w u r g. ap (λ (o : Outcome A). andThen o (λ a j. Ok (f i a, j))) (x .lasting b v w u r g);
-      }
+      record { at = x .at; lasting = λ b v w u r g. ap (λ (o : Outcome A). andThen o (λ a j. Ok (f i a, j))) (x .lasting b v w u r g) }
 
   made-stuck : (t : List ℕ) (i : ℕ) (s : List ℕ) (k : ℕ) → From t i s → andThen (p t i) (λ a j. Ok (f i a, j)) ≡ Err (Form k)
       → Stuck T G (λ t i. andThen (p t i) (λ a j. Ok (f i a, j))) i s k
@@ -224,6 +258,13 @@ module _ {X A B : Type 0} {T : X → List ℕ} {G : X → Type 0} {val : X → �
         | halted g was goes ↦ halted-stuck t i s k e (was ∙ ap (λ (z : LineFault). Err z) (same-fault g (Form k) goes))
       ]
 
+  made-large : (t : List ℕ) (i : ℕ) (s : List ℕ) (g : NumberFault) → From t i s → andThen (p t i) (λ a j. Ok (f i a, j)) ≡ Err (Number g) → Large T G i s (g .byte)
+  made-large t i s g e h =
+      elim (gone (p t i) (λ a j. Ok (f i a, j)) (Err (Number g)) h) [
+      | onward a m was goes ↦ absurd (no-value (Number g) (f i a, m) (sym goes))
+      | halted d was goes ↦ P .large t i s g e (was ∙ ap (λ (z : LineFault). Err z) (same-fault d (Number g) goes))
+      ]
+
   -- a value is made of what was read
   pub made-grammar : Grammar T G (λ x i. f i (val x i)) test (λ t i. andThen (p t i) (λ a j. Ok (f i a, j)))
   made-grammar =
@@ -231,6 +272,7 @@ module _ {X A B : Type 0} {T : X → List ℕ} {G : X → Type 0} {val : X → �
         back = λ x g t i r e h. ap (λ (o : Outcome A). andThen o (λ a j. Ok (f i a, j))) (P .back x g t i r e h);
         passes = made-passes;
         stuck = made-stuck;
+        large = made-large;
       }
 
 module _ {X A : Type 0} {T : X → List ℕ} {G : X → Type 0} {val : X → ℕ → A} {test : ℕ → Bool} {p : List ℕ → ℕ → Outcome A} (P : Grammar T G val test p) where
@@ -242,17 +284,8 @@ module _ {X A : Type 0} {T : X → List ℕ} {G : X → Type 0} {val : X → ℕ
         passes = λ t i s a j f h. P .passes t i s a j f (sym (e t i) ∙ h);
         stuck = λ t i s k f h.
             let x = P .stuck t i s k f (sym (e t i) ∙ h) in
-            record {
-              before = x .before;
-              rest = x .rest;
-              cut = x .cut;
-              place = x .place;
-              form = x .form;
-              sound = x .sound;
-              more = x .more;
-              begins = x .begins;
-              lasting = λ b v w u r g. e u i ∙ x .lasting b v w u r g;
-            };
+            record { at = x .at; lasting = λ b v w u r g. e u i ∙ x .lasting b v w u r g };
+        large = λ t i s g f h. P .large t i s g f (sym (e t i) ∙ h);
       }
 
   module _ {Z : Type 0} (T′ : Z → List ℕ) (G′ : Z → Type 0) (val′ : Z → ℕ → A) (to : X → Z) (keeps : (x : X) → G x → G′ (to x)) (writes : (x : X) → T′ (to x) ≡ T x)
@@ -262,6 +295,19 @@ module _ {X A : Type 0} {T : X → List ℕ} {G : X → Type 0} {val : X → ℕ
         let w : T′ z ≡ T x = ap T′ (sym q) ∙ writes x in
         P .back x g t i r (e ∙ ap (λ (y : List ℕ). y ++ r) w) h
         ∙ (ap (λ (a : A). Ok (a, i + length (T x))) (means x i ∙ ap (λ (y : Z). val′ y i) q) ∙ ap (λ (y : List ℕ). Ok (val′ z i, i + length y)) (sym w))
+
+    abbrev named-reached : (i : ℕ) (s : List ℕ) (k : ℕ) → Reached T G i s k → Reached T′ G′ i s k
+    named-reached i s k x =
+        record {
+          before = x .before;
+          rest = x .rest;
+          cut = x .cut;
+          place = x .place;
+          form = to (x .form);
+          sound = keeps (x .form) (x .sound);
+          more = x .more;
+          begins = writes (x .form) ∙ x .begins;
+        }
 
     -- the same forms by other names
     pub named-grammar : ((z : Z) → G′ z → (x : X) × (to x ≡ z) × G x) → Grammar T′ G′ val′ test p
@@ -281,15 +327,8 @@ module _ {X A : Type 0} {T : X → List ℕ} {G : X → Type 0} {val : X → ℕ
               };
           stuck = λ t i s k e h.
               let x = P .stuck t i s k e h in
-              record {
-                before = x .before;
-                rest = x .rest;
-                cut = x .cut;
-                place = x .place;
-                form = to (x .form);
-                sound = keeps (x .form) (x .sound);
-                more = x .more;
-                begins = writes (x .form) ∙ x .begins;
-                lasting = x .lasting;
-              };
+              record { at = named-reached i s k (x .at); lasting = x .lasting };
+          large = λ t i s f e h.
+              let x = P .large t i s f e h in
+              record { at = named-reached i s (f .byte) (x .at); over = x .over };
         }

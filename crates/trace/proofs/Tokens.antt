@@ -15,6 +15,7 @@ use Rattle.std.specs.declared.result.Result.the-variants.{Ok, Err}
 use Rattle.std.proofs.shelf.Tests.{cases-bool, eqb-true, eq-eqb, and-parts}
 use Rattle.std.proofs.shelf.Decimals.{digits-decimal, decimal-digit}
 use Rattle.refusal.specs.Refusals.{first}
+use Rattle.trace.specs.declared.fault.NumberFault.{NumberFault}
 use Rattle.trace.specs.declared.fault.LineFault.{LineFault}
 use Rattle.trace.specs.declared.fault.LineFault.the-variants.{Form, Number}
 use Rattle.trace.specs.declared.word.Word.{Word}
@@ -22,9 +23,9 @@ use Rattle.trace.specs.Choices.{isDigit}
 use Rattle.trace.specs.Runs.{allPass, inWord}
 use Rattle.trace.specs.Written.{IsWord, spanOf}
 use Rattle.trace.specs.Reading.{Outcome, nextAt, isByte, byteAt, numberAt, numberOf, upTo, wordAt, wordOf}
-use Rattle.trace.proofs.Grammars.{From, stops, Passed, Stuck, Grammar}
+use Rattle.trace.proofs.Grammars.{From, stops, Passed, Stuck, Large, Grammar}
 use Rattle.trace.proofs.Parting.{byte-is, byte-not}
-use Rattle.trace.proofs.Digits.{front, front-cut, front-yes, front-no, front-stops, cuts, own, small, decimal-read, digits-ok, digits-written, ReadDigits, WrongDigits, none, leading-zero, digits-wrong}
+use Rattle.trace.proofs.Digits.{front, front-cut, front-yes, front-no, front-stops, cuts, own, small, decimal-read, digits-ok, digits-written, ReadDigits, WrongDigits, none, leading-zero, digits-wrong, digits-large}
 
 pub next-from : (t : List ℕ) (i : ℕ) (s : List ℕ) → From t i s → nextAt t i ≡ first s
 unfolding nextAt
@@ -60,14 +61,16 @@ module _ (b : ℕ) where
   byte-stuck t i [] k e h =
       let p : k ≡ i = cc (byte-not b t i (byte-test b t i [] e)) in
       record {
-        before = [];
-        rest = [];
-        cut = refl;
-        place = omega (arith, p);
-        form = tt;
-        sound = tt;
-        more = b ∷ [];
-        begins = refl;
+        at = record {
+          before = [];
+          rest = [];
+          cut = refl;
+          place = omega (arith, p);
+          form = tt;
+          sound = tt;
+          more = b ∷ [];
+          begins = refl;
+        };
         lasting = λ c v w u r f. absurd (let z : _≡_ {A = ℕ} 0 1 = cc in omega arith);
       }
   byte-stuck t i (c ∷ s) k e h =
@@ -76,22 +79,29 @@ module _ (b : ℕ) where
       (λ (q : eqb c b ≡ false).
       let p : k ≡ i = cc (byte-not b t i (byte-test b t i (c ∷ s) e ∙ q)) in
       record {
-        before = [];
-        rest = c ∷ s;
-        cut = refl;
-        place = omega (arith, p);
-        form = tt;
-        sound = tt;
-        more = b ∷ [];
-        begins = refl;
+        at = record {
+          before = [];
+          rest = c ∷ s;
+          cut = refl;
+          place = omega (arith, p);
+          form = tt;
+          sound = tt;
+          more = b ∷ [];
+          begins = refl;
+        };
         lasting = λ d v w u r f.
             let m : c ≡ d = cc in
             byte-not b u i (byte-test b u i (d ∷ w) f ∙ (ap (λ (x : ℕ). eqb x b) (sym m) ∙ q)) ∙ ap (λ (x : ℕ). Err (Form x)) (sym p);
       })
       (cases-bool (eqb c b))
 
+  byte-large : (t : List ℕ) (i : ℕ) (s : List ℕ) (g : NumberFault) → byteAt b t i ≡ Err (Number g) → Large {X = Unit {0}} (λ _. b ∷ []) (λ _. Unit {0}) i s (g .byte)
+  byte-large t i s g h =
+      ⊎-elim (λ (q : isByte b (nextAt t i) ≡ true). absurd (let z : _≡_ {A = ℕ} 0 1 = cc (byte-is b t i q) in omega arith))
+      (λ (q : isByte b (nextAt t i) ≡ false). absurd (let z : _≡_ {A = ℕ} 0 1 = cc (byte-not b t i q) in omega arith)) (cases-bool (isByte b (nextAt t i)))
+
   pub byte-grammar : Grammar {X = Unit {0}} (λ _. b ∷ []) (λ _. Unit {0}) (λ _ _. tt {0}) (λ _. false) (byteAt b)
-  byte-grammar = record { back = λ x g t i r e h. byte-back t i r e; passes = λ t i s a j e h. byte-passes t i s j e h; stuck = byte-stuck }
+  byte-grammar = record { back = λ x g t i r e h. byte-back t i r e; passes = λ t i s a j e h. byte-passes t i s j e h; stuck = byte-stuck; large = λ t i s g e h. byte-large t i s g h }
 
 -- a number
 number-from : (t : List ℕ) (i : ℕ) (s : List ℕ) → From t i s → numberAt t i ≡ upTo (i + length (front isDigit s)) (numberOf (front isDigit s) i)
@@ -141,14 +151,16 @@ NumberStuck i s k = Stuck decimal (λ n. n < 2 ^ 32) numberAt i s k
 no-digit : (i : ℕ) (s : List ℕ) (k : ℕ) → stops isDigit s ≡ true → k ≡ i → NumberStuck i s k
 no-digit i s k stop e =
     record {
-      before = [];
-      rest = s;
-      cut = refl;
-      place = omega (arith, e);
-      form = 0;
-      sound = omega arith;
-      more = decimal 0;
-      begins = refl;
+      at = record {
+        before = [];
+        rest = s;
+        cut = refl;
+        place = omega (arith, e);
+        form = 0;
+        sound = omega arith;
+        more = decimal 0;
+        begins = refl;
+      };
       lasting = λ b v w u r f.
           let h : stops isDigit (b ∷ w) ≡ true = subst (λ (x : List ℕ). stops isDigit x ≡ true) r stop in
           number-by u i (b ∷ w) [] f (front-stops isDigit (b ∷ w) h) ∙ ap (λ (x : ℕ). Err (Form x)) (sym e);
@@ -158,14 +170,16 @@ no-digit i s k stop e =
 zero-led : (i : ℕ) (d : ℕ) (ds : List ℕ) (k : ℕ) → isDigit d ≡ true → k ≡ i + 1 → NumberStuck i (48 ∷ (d ∷ ds)) k
 zero-led i d ds k digit e =
     record {
-      before = 48 ∷ [];
-      rest = d ∷ ds;
-      cut = refl;
-      place = e;
-      form = 0;
-      sound = omega arith;
-      more = [];
-      begins = decimal-digit 0 (omega arith);
+      at = record {
+        before = 48 ∷ [];
+        rest = d ∷ ds;
+        cut = refl;
+        place = e;
+        form = 0;
+        sound = omega arith;
+        more = [];
+        begins = decimal-digit 0 (omega arith);
+      };
       lasting = λ b v w u r f.
           let m : d ≡ b = cc in
           let q : front isDigit (48 ∷ (b ∷ w)) ≡ 48 ∷ (b ∷ front isDigit w) =
@@ -188,8 +202,17 @@ number-stuck t i s k e h =
     let c = cuts isDigit s in
     number-wrong i s ds (c .rest) k (c .whole) (c .ends) (c .pass) (digits-wrong ds i k (up-err (i + length ds) (numberOf ds i) (Form k) (sym (number-from t i s e) ∙ h)))
 
+number-large : (t : List ℕ) (i : ℕ) (s : List ℕ) (f : NumberFault) → From t i s → numberAt t i ≡ Err (Number f) → Large decimal (λ n. n < 2 ^ 32) i s (f .byte)
+number-large t i s f e h =
+    let ds = front isDigit s in
+    let d = digits-large ds i f (up-err (i + length ds) (numberOf ds i) (Number f) (sym (number-from t i s e) ∙ h)) in
+    record {
+      at = record { before = []; rest = s; cut = refl; place = omega (arith, d .0); form = 0; sound = omega arith; more = decimal 0; begins = refl };
+      over = d .1;
+    }
+
 pub number-grammar : Grammar decimal (λ n. n < 2 ^ 32) (λ n _. n) isDigit numberAt
-number-grammar = record { back = number-back; passes = number-passes; stuck = number-stuck }
+number-grammar = record { back = number-back; passes = number-passes; stuck = number-stuck; large = number-large }
 
 -- a word
 word-by : (t : List ℕ) (i : ℕ) (s ws : List ℕ) → From t i s → front inWord s ≡ ws → wordAt t i ≡ wordOf ws i
@@ -230,14 +253,16 @@ word-wrong : (i : ℕ) (s ws rest : List ℕ) (k : ℕ) → s ≡ ws ++ rest →
 word-wrong i s [] rest k cut stop h =
     let e : k ≡ i = cc in
     record {
-      before = [];
-      rest = s;
-      cut = refl;
-      place = omega (arith, e);
-      form = 120 ∷ [];
-      sound = (omega arith, refl);
-      more = 120 ∷ [];
-      begins = refl;
+      at = record {
+        before = [];
+        rest = s;
+        cut = refl;
+        place = omega (arith, e);
+        form = 120 ∷ [];
+        sound = (omega arith, refl);
+        more = 120 ∷ [];
+        begins = refl;
+      };
       lasting = λ b v w u r f.
           let g : stops inWord (b ∷ w) ≡ true = subst (λ (x : List ℕ). stops inWord x ≡ true) (sym cut ∙ r) stop in
           word-by u i (b ∷ w) [] f (front-stops inWord (b ∷ w) g) ∙ ap (λ (x : ℕ). Err (Form x)) (sym e);
@@ -249,5 +274,12 @@ word-stuck t i s k e h =
     let c = cuts inWord s in
     word-wrong i s (front inWord s) (c .rest) k (c .whole) (c .ends) (sym (word-by t i s (front inWord s) e refl) ∙ h)
 
+no-number : (ws : List ℕ) (i : ℕ) (f : NumberFault) → wordOf ws i ≡ Err (Number f) → ⊥
+no-number [] i f h = let z : _≡_ {A = ℕ} 0 1 = cc in omega arith
+no-number (b ∷ bs) i f h = let z : _≡_ {A = ℕ} 0 1 = cc in omega arith
+
+word-large : (t : List ℕ) (i : ℕ) (s : List ℕ) (f : NumberFault) → From t i s → wordAt t i ≡ Err (Number f) → Large (λ w. w) IsWord i s (f .byte)
+word-large t i s f e h = absurd (no-number (front inWord s) i f (sym (word-by t i s (front inWord s) e refl) ∙ h))
+
 pub word-grammar : Grammar (λ w. w) IsWord spanOf inWord wordAt
-word-grammar = record { back = word-back; passes = word-passes; stuck = word-stuck }
+word-grammar = record { back = word-back; passes = word-passes; stuck = word-stuck; large = word-large }

@@ -5,8 +5,9 @@
 -- busLineOf  the bus line that is read at a place: its numbers and words, and where each begins
 -- Stands     these bytes stand in the text from a place on
 -- Front      some sound line agrees with the text from the line's first byte to before byte k
+-- Overflow   a number that does not fit begins at byte k, behind such a front
 -- Faithful   what is written is read back; what is read stands there as it is written; a line of wrong form is told
---            at the end of its longest front
+--            at the end of its longest front, and a number that does not fit at its first byte
 use Prim.Native.Nat.{ℕ, _+_, _-_, _^_, _≤_, _<_}
 use mathlib.Core.Path.{_≡_}
 use mathlib.Core.Bool.{Bool, true}
@@ -23,9 +24,12 @@ use Rattle.trace.specs.declared.access.Access.the-variants.{Read, Write, Flush
 use Rattle.trace.specs.declared.«bus_line».BusLine.{BusLine}
 use Rattle.trace.specs.declared.«bus_line».Second.{Second}
 use Rattle.trace.specs.declared.fault.LineFault.{LineFault}
-use Rattle.trace.specs.declared.fault.LineFault.the-variants.{Form}
+use Rattle.trace.specs.declared.fault.LineFault.the-variants.{Form, Number}
+use Rattle.trace.specs.declared.fault.NumberFault.{NumberFault}
+use Rattle.trace.specs.declared.part.Part.the-variants as part
 use Rattle.trace.specs.declared.word.Word.{Word}
-use Rattle.trace.specs.Runs.{allPass, inWord}
+use Rattle.trace.specs.Reading.{valueOn}
+use Rattle.trace.specs.Runs.{allPass, inWord, runAt}
 
 -- the end of a line
 abbrev pub lineEnd : List ℕ
@@ -128,9 +132,15 @@ pub record Front {X : Type 0} (write : X → List ℕ) (Good : X → Type 0) (t 
   pub sound : Good line
   pub agrees : take (k - i) (drop i t) ≡ take (k - i) (write line)
 
+-- a number that does not fit begins at byte k, behind the front of a sound line
+pub record Overflow {X : Type 0} (write : X → List ℕ) (Good : X → Type 0) (t : List ℕ) (i k : ℕ) : Type 0 where
+  pub front : Front write Good t i k
+  pub over : 2 ^ 32 ≤ valueOn 0 (runAt part.Number t k)
+
 -- what a reading at byte i answers, and where it then stands, against the written form
 pub record Faithful {X A : Type 0} (write : X → List ℕ) (Good : X → Type 0) (value : X → ℕ → A) (t : List ℕ) (i : ℕ) (r : Result A LineFault) (j : ℕ) : Type 0 where
   pub back : (x : X) → Good x → Stands t i (write x) → (r ≡ Ok (value x i)) × (j ≡ i + length (write x))
   pub stands : (a : A) → r ≡ Ok a → (x : X) × Good x × (a ≡ value x i) × Stands t i (write x) × (j ≡ i + length (write x))
   pub reaches : (k : ℕ) → r ≡ Err (Form k) → Front write Good t i k
   pub furthest : (k : ℕ) → r ≡ Err (Form k) → k < length t → Front write Good t i (k + 1) → ⊥
+  pub large : (f : NumberFault) → r ≡ Err (Number f) → Overflow write Good t i (f .byte)
