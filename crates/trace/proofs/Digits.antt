@@ -171,9 +171,9 @@ fitting-large : (ds : List ℕ) (i : ℕ) (f : NumberFault) → keptFault (fitti
 fitting-large ds i f h =
     ⊎-elim (λ (l : valueOn 0 ds < 2 ^ 32). absurd (let z : _≡_ {A = ℕ} 0 1 = cc (fits-small ds i l) in omega arith))
     (λ (l : 2 ^ 32 ≤ valueOn 0 ds).
-        let q : _≡_ {A = Result ℕ LineFault} (Err (Number (record { byte = i }))) (Err (Number f)) = sym (ap keptFault (fits-large ds i l)) ∙ h in
-        let e : _≡_ {A = NumberFault} (record { byte = i }) f = cc in
-        (sym (ap (λ (z : NumberFault). z .byte) e), l))
+    let q : _≡_ {A = Result ℕ LineFault} (Err (Number (record { byte = i }))) (Err (Number f)) = sym (ap keptFault (fits-large ds i l)) ∙ h in
+    let e : _≡_ {A = NumberFault} (record { byte = i }) f = cc in
+    (sym (ap (λ (z : NumberFault). z .byte) e), l))
     (cases-lt (valueOn 0 ds) (2 ^ 32))
 
 pub digits-large : (ds : List ℕ) (i : ℕ) (f : NumberFault) → numberOf ds i ≡ Err (Number f) → (f .byte ≡ i) × (2 ^ 32 ≤ valueOn 0 ds)

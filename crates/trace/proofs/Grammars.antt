@@ -194,13 +194,13 @@ module _ {X Y A B : Type 0} {T : X → List ℕ} {G : X → Type 0} {val : X →
       → Large {X = X × Y} (λ x. T (x .0) ++ U (x .1)) (λ x. G (x .0) × F (x .1)) i s (g .byte)
   then-large t i s g e h =
       elim (gone (p t i) (λ a j. q a t j) (Err (Number g)) h) [
-      | onward a m was goes ↦
-          let x = P .passes t i s a m e was in
-          let y = Q a .large t m (x .rest) g (left-behind t i s a m e x) goes in
-          record { at = second-reached i s a m (g .byte) x (y .at); over = y .over }
-      | halted f was goes ↦
-          let x = P .large t i s g e (was ∙ ap (λ (z : LineFault). Err z) (same-fault f (Number g) goes)) in
-          record { at = first-reached i s (g .byte) (x .at); over = x .over }
+        | onward a m was goes ↦
+            let x = P .passes t i s a m e was in
+            let y = Q a .large t m (x .rest) g (left-behind t i s a m e x) goes in
+            record { at = second-reached i s a m (g .byte) x (y .at); over = y .over }
+        | halted f was goes ↦
+            let x = P .large t i s g e (was ∙ ap (λ (z : LineFault). Err z) (same-fault f (Number g) goes)) in
+            record { at = first-reached i s (g .byte) (x .at); over = x .over }
       ]
 
   then-stuck : (t : List ℕ) (i : ℕ) (s : List ℕ) (k : ℕ) → From t i s → andThen (p t i) (λ a j. q a t j) ≡ Err (Form k)
@@ -261,8 +261,8 @@ module _ {X A B : Type 0} {T : X → List ℕ} {G : X → Type 0} {val : X → �
   made-large : (t : List ℕ) (i : ℕ) (s : List ℕ) (g : NumberFault) → From t i s → andThen (p t i) (λ a j. Ok (f i a, j)) ≡ Err (Number g) → Large T G i s (g .byte)
   made-large t i s g e h =
       elim (gone (p t i) (λ a j. Ok (f i a, j)) (Err (Number g)) h) [
-      | onward a m was goes ↦ absurd (no-value (Number g) (f i a, m) (sym goes))
-      | halted d was goes ↦ P .large t i s g e (was ∙ ap (λ (z : LineFault). Err z) (same-fault d (Number g) goes))
+        | onward a m was goes ↦ absurd (no-value (Number g) (f i a, m) (sym goes))
+        | halted d was goes ↦ P .large t i s g e (was ∙ ap (λ (z : LineFault). Err z) (same-fault d (Number g) goes))
       ]
 
   -- a value is made of what was read

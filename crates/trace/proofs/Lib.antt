@@ -12,3 +12,4 @@ pub mod Parting
 pub mod Running
 pub mod Tokens
 pub mod Valuing
+pub mod Wholes

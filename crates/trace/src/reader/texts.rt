@@ -1,11 +1,8 @@
 // A whole text: its bus line, then its access lines.
-ghost use Prim.Native.Nat.{_≤_};
 ghost use mathlib.Core.Path.{_≡_};
-ghost use lib.Dec.{leb};
-ghost use lib.ListN.{length};
 ghost use Rattle.trace.specs.Faults.{lineOf};
 ghost use Rattle.trace.specs.Setups.{Settled};
-ghost use Rattle.trace.specs.Texts.{openStop, Opened, Held, NextRead};
+ghost use Rattle.trace.specs.Texts.{openStop, Opened, Held, NextRead, Counted, AccessLaws};
 use crate::access::Access;
 use crate::fault::TraceFault;
 use crate::fault::TraceFaultFromLine;
@@ -62,5 +59,18 @@ impl Reader<'_> {
         }
         let access = self.access()?;
         Ok(Some(access))
+    }
+
+    /// How many access lines follow, if all of them are sound.
+    pub fn count_accesses(&self) -> Result<usize, TraceFault>
+        ensures counted { λ r. ⌜ Counted (now (now (self .entry) .text)) (now (self .entry) .at) r ⌝ }
+        ensures laws { λ _. ⌜ AccessLaws (now (now (self .entry) .text)) (now (self .entry) .at) ⌝ }
+    {
+        let mut ahead = *self;
+        let mut count = 0;
+        while let Some(_) = ahead.next_access()? {
+            count += 1;
+        }
+        Ok(count)
     }
 }
