@@ -2,14 +2,12 @@
 use Prim.Native.Nat.{ℕ}
 use mathlib.Core.Bool.{Bool, true, false}
 use mathlib.Core.Path.{_≡_, refl, ap, _∙_}
-use mathlib.Core.List.{List, [], _∷_}
+use mathlib.Core.List.{List, []}
 use lib.ListN.{getD, set}
 use Rattle.std.specs.declared.option.Option.{Option}
-use Rattle.std.specs.declared.option.Option.the-variants.{Some, None}
 use Rattle.protocol.specs.declared.state.State.{State}
-use Rattle.protocol.specs.declared.state.State.the-variants.{Invalid, Shared, Exclusive, Owned, Modified}
 use Rattle.protocol.specs.declared.transaction.Transaction.{Transaction}
-use Rattle.protocol.specs.declared.transaction.Transaction.the-variants.{ReadShared, ReadInvalidate, Invalidate, Update, ThroughUpdate, ThroughInvalidate, WriteBack}
+use Rattle.protocol.specs.declared.transaction.Transaction.the-variants.{ThroughInvalidate, WriteBack}
 use Rattle.protocol.specs.States.{owned}
 use Rattle.protocol.specs.Transactions.{digitTransaction}
 use Rattle.rules.specs.Columns.{none, ownerOf}

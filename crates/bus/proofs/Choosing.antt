@@ -1,10 +1,8 @@
 -- What the transaction chosen says of the rule of a write.
 use Prim.Native.Nat.{ℕ}
-use native.Mathlib.Omega.{arith}
 use mathlib.Core.Bool.{Bool, true, false, _||_}
-use mathlib.Core.Path.{_≡_, refl, ap, sym, subst, _∙_}
+use mathlib.Core.Path.{_≡_, refl, ap, sym}
 use mathlib.Core.Logic.{⊎-elim}
-use mathlib.Core.List.{List, [], _∷_}
 use lib.Dec.{eqb}
 use lib.Chars.{codes}
 use Rattle.std.proofs.shelf.Tests.{false≢true, both-ways, or-cases, eqb-true}

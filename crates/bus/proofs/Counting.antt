@@ -1,15 +1,13 @@
 -- Copies lost and seats alone: what a change of the requester's own copy leaves of them.
-use Prim.Native.Nat.{ℕ, zero, suc, _+_, _≤_, _<_}
+use Prim.Native.Nat.{ℕ, zero, suc, _+_, _≤_}
 use native.Mathlib.Omega.{arith}
-use mathlib.Core.Bool.{Bool, true, false, not, _&&_, cond}
-use mathlib.Core.Path.{_≡_, refl, ap, sym, _∙_}
-use mathlib.Core.Logic.{_≢_}
+use mathlib.Core.Bool.{Bool, true, false, not, _&&_}
+use mathlib.Core.Path.{_≡_, refl, ap}
 use mathlib.Core.List.{List, [], _∷_}
-use lib.ListN.{length, getD, set, length-set}
-use lib.Seq.{set-set, getD-set-other}
-use Rattle.std.proofs.shelf.Tests.{cond-both}
+use lib.ListN.{length, set, length-set}
+use lib.Seq.{set-set}
 use Rattle.protocol.specs.States.{valid}
-use Rattle.rules.specs.Columns.{Copy, none, one, stateAt, some, alone}
+use Rattle.rules.specs.Columns.{Copy, none, one, some, alone}
 use Rattle.rules.specs.Machines.{lostIn, lost}
 
 one-most : (b : Bool) → one b ≤ 1

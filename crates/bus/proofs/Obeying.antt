@@ -2,9 +2,9 @@
 use Prim.Native.Nat.{ℕ, _+_, _-_, _≤_}
 use native.Mathlib.Omega.{arith}
 use mathlib.Core.Path.{_≡_, refl, ap, sym, _∙_}
-use mathlib.Core.List.{List, [], _∷_, _++_}
+use mathlib.Core.List.{List, [], _++_}
 use lib.ListN.{length, getD, set, take, drop}
-use Rattle.std.proofs.shelf.Lists.{append-nil, append-assoc, drop-drop, length-append}
+use Rattle.std.proofs.shelf.Lists.{append-nil, append-assoc, drop-drop, length-append, length-take-le}
 use Rattle.std.specs.declared.option.Option.{Option}
 use Rattle.std.specs.declared.option.Option.the-variants.{Some, None}
 use Rattle.rules.specs.declared.record.Record.{Record}
@@ -139,6 +139,22 @@ module _ {P M A : Type 0} (lines : M → List (List ℕ)) (aside : M → A) wher
   -- no copy dropped yet
   pub settles-none : (b : Bus P M) → Settles lines aside (λ m. m) 0 0 b b
   settles-none b = record { told = []; wrote = refl; obeys = nothing b }
+
+  -- a settle read in the rule's words: its machine, and the lines written
+  pub settles-machine : {rule : Machine → Machine} {w k : ℕ} {a b : Bus P M} → Settles lines aside rule w k a b → machineOf lines (rule (machineOf lines [] a) .records) b ≡ rule (machineOf lines [] a)
+  settles-machine {b = b} p = ap (λ (x : List Record). machineOf lines x b) (sym (ap (λ (m : Machine). m .records) (p .obeys .machine []))) ∙ p .obeys .machine []
+
+  pub settles-wrote : {rule : Machine → Machine} {w k : ℕ} {a b : Bus P M} → Settles lines aside rule w k a b → w ≡ length (rule (machineOf lines [] a) .records)
+  settles-wrote p = p .wrote ∙ ap (λ (m : Machine). length (m .records)) (p .obeys .machine [])
+
+  -- the records of an access in the rule's words, and how many there are
+  pub reaches-records : {rule : Machine → Machine} {n k made : ℕ} {a b : Bus P M} {es es′ : List Record} → Reaches lines aside rule n k 0 made es es′ a b → take made es′ ≡ rule (machineOf lines [] a) .records
+  reaches-records p = ap (λ (m : Machine). m .records) (p .machine)
+
+  pub reaches-made : {rule : Machine → Machine} {n k made : ℕ} {a b : Bus P M} {es es′ : List Record} → Reaches lines aside rule n k 0 made es es′ a b → n ≤ length es′ → made ≡ length (rule (machineOf lines [] a) .records)
+  reaches-made {made = made} {es′ = es′} p l =
+      let within : made ≤ length es′ = omega (arith, p .few) in
+      sym (length-take-le made es′ within) ∙ ap length (reaches-records p)
 
 -- a record that may have been made is one at most
 pub listed-few : (e : Option Record) → length (listed e) ≤ 1

@@ -1,16 +1,16 @@
 -- A machine part by part: what makes it the machine that a rule gives.
-use Prim.Native.Nat.{ℕ, _<_}
+use Prim.Native.Nat.{ℕ}
 use mathlib.Core.Path.{_≡_, refl, ap, sym, _∙_}
 use mathlib.Core.List.{List, [], _∷_, _++_}
-use lib.ListN.{length, getD, set}
+use lib.ListN.{getD, set}
 use lib.Seq.{set-getD}
 use Rattle.protocol.specs.declared.transaction.Transaction.{Transaction}
 use Rattle.rules.specs.declared.record.Record.{Record}
 use Rattle.rules.specs.declared.tally.Tally.{Tally}
-use Rattle.rules.specs.Columns.{Copy, Column, none, stateAt}
-use Rattle.rules.specs.Caches.{Cache, look}
+use Rattle.rules.specs.Columns.{Column}
+use Rattle.rules.specs.Caches.{Cache}
 use Rattle.rules.specs.Tallies.{tallied}
-use Rattle.rules.specs.Machines.{Machine, column, copiesOf, putEach, lost, recordOf, change, transact, transacted, install}
+use Rattle.rules.specs.Machines.{Machine, copiesOf, putEach, lost, recordOf, change, transact}
 
 -- a machine of these parts
 abbrev pub machine : List Cache → List (List ℕ) → Tally → List Record → Machine

@@ -1,13 +1,13 @@
 -- What a requester is told, in the rules' words: of the line after its own copy was put too.
-use Prim.Native.Nat.{ℕ, _≤_}
+use Prim.Native.Nat.{ℕ}
 use mathlib.Core.Bool.{Bool, true, false, not, cond}
 use mathlib.Core.Path.{_≡_, refl, ap, sym, _∙_}
-use mathlib.Core.List.{List, [], _∷_}
-use lib.ListN.{length, getD, set}
+use mathlib.Core.List.{List, []}
+use lib.ListN.{getD, set}
 use lib.Seq.{set-getD}
 use Rattle.std.specs.Options.{isSome}
 use Rattle.protocol.specs.States.{valid}
-use Rattle.rules.specs.Columns.{Copy, none, stateAt, alone, ownerOf, supplied}
+use Rattle.rules.specs.Columns.{Copy, stateAt, alone, ownerOf, supplied}
 use Rattle.rules.specs.Transactions.{reflects}
 use Rattle.rules.specs.Caches.{Cache}
 use Rattle.rules.specs.Machines.{copiesOf, lost}

@@ -1,12 +1,12 @@
 -- A requester's own copy put after the other seats have reacted: the two are one change of the line.
 use Prim.Native.Nat.{ℕ, zero, suc, _<_}
 use native.Mathlib.Omega.{arith}
-use mathlib.Core.Path.{_≡_, refl, ap, sym, _∙_}
+use mathlib.Core.Path.{_≡_, refl, ap, _∙_}
 use mathlib.Core.List.{List, [], _∷_}
 use lib.ListN.{length, getD, set, length-set}
 use lib.Seq.{set-set, getD-set-same}
 use Rattle.rules.specs.Columns.{Copy, none}
-use Rattle.rules.specs.Caches.{Cache, look, put, room}
+use Rattle.rules.specs.Caches.{Cache, put}
 use Rattle.rules.specs.Machines.{copiesOf, putEach}
 use Rattle.rules.proofs.Caches.{put-look}
 use Rattle.rules.proofs.Machines.{column-at, putEach-at, putEach-one}

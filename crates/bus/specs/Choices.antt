@@ -4,7 +4,6 @@
 -- chosen   the transaction, or none where the copy is exclusive
 use Prim.Native.Nat.{ℕ}
 use Rattle.std.specs.declared.option.Option.{Option}
-use Rattle.std.specs.declared.option.Option.the-variants.{Some, None}
 use Rattle.protocol.specs.declared.state.State.{State}
 use Rattle.protocol.specs.declared.state.State.the-variants.{Invalid, Shared, Exclusive, Owned, Modified}
 use Rattle.protocol.specs.declared.transaction.Transaction.{Transaction}

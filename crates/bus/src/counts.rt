@@ -1,11 +1,34 @@
 // The tally's counting: one function for each event that moves its numbers.
-ghost use Prim.Native.Nat.{_+_, _<_, _≤_, _^_};
+ghost use Prim.Native.Nat.{_+_, _≤_};
 ghost use mathlib.Core.Path.{_≡_};
-ghost use Rattle.rules.specs.Tallies.{tallied, oneDisplaced, oneFlushed, oneRead, oneWrite};
+ghost use Rattle.rules.specs.Tallies.{blank, tallied, oneDisplaced, oneFlushed, oneRead, oneWrite};
 ghost use Rattle.bus.specs.Totals.{total, Room};
 use protocol::Transaction;
 use rules::Record;
 use rules::Tally;
+
+/// The tally of a bus just opened.
+pub fn nothing_counted() -> Tally
+    ensures { λ r. ⌜ r ≡ blank ⌝ }
+{
+    Tally {
+        reads: 0,
+        writes: 0,
+        hits: 0,
+        rs: 0,
+        rx: 0,
+        inv: 0,
+        up: 0,
+        tu: 0,
+        ti: 0,
+        wb: 0,
+        reflected: 0,
+        fills: 0,
+        displaced: 0,
+        flushed: 0,
+        invalidated: 0,
+    }
+}
 
 /// Counts a transaction: the transaction itself, a fill, a reflection, and the copies that it made Invalid.
 pub fn count_transaction(tally: &mut Tally, event: &Record, lost: u32)

@@ -10,10 +10,9 @@ ghost use Rattle.protocol.specs.Transactions.{digitTransaction};
 ghost use Rattle.rules.specs.Columns.{stateAt};
 ghost use Rattle.rules.specs.Transactions.{readInvalidate, silent};
 ghost use Rattle.rules.specs.Machines.{copiesOf, change, transact};
-ghost use Rattle.rules.specs.Accesses.{savedFrom, through, emptied, filled, fetched, writtenHeld, missedBy, written};
+ghost use Rattle.rules.specs.Accesses.{emptied, filled, fetched, writtenHeld, missedBy, written};
 ghost use Rattle.caches.specs.Views.{cachesOf};
 ghost use Rattle.bus.specs.Totals.{Room};
-ghost use Rattle.bus.specs.Logs.{listed};
 ghost use Rattle.bus.specs.Machines.{Obeys, Reaches};
 use super::Bus;
 use crate::choice::choose;
@@ -26,39 +25,6 @@ use protocol::Transaction;
 use rules::Record;
 
 impl<P: Protocol, M: Memory> Bus<P, M> {
-    // An owner of the line in another seat writes it back.
-    fn save_owner(&mut self, seat: usize, line: usize) -> Option<Record>
-        requires { ⌜ Room 3 (now self .tally) ⌝ }
-        ensures { λ r. ⌜ Obeys lines aside (savedFrom seat line) (listed r) 3 (now (self .entry)) (now (self .exit)) ⌝ }
-    {
-        match self.caches.owner(seat, line) {
-            Some(owner) => Some(self.write_back(owner, line)),
-            None => None,
-        }
-    }
-
-    // Through with invalidate; an owner in another seat writes back first.
-    fn write_through(
-        &mut self,
-        seat: usize,
-        line: usize,
-        word: usize,
-        value: u32,
-        records: &mut [Record],
-        made: usize,
-    ) -> usize
-        requires on { ⌜ seat < now self .caches .seats ⌝ }
-        requires within { ⌜ word < 4 ⌝ }
-        requires room { ⌜ Room 14 (now self .tally) ⌝ }
-        requires places { ⌜ made + 2 ≤ length (now records) ⌝ }
-        ensures { λ r. ⌜ Reaches lines aside (through (cells (now (self .entry) .protocol)) seat line word value) 2 14 made r (now (records .entry)) (now (records .exit)) (now (self .entry)) (now (self .exit)) ⌝ }
-    {
-        let saved = self.save_owner(seat, line);
-        let made = log_if(records, made, saved);
-        let sent = self.through_invalidate(seat, line, word, value);
-        log(records, made, sent)
-    }
-
     // The place is emptied and the line read shared.
     fn fill(&mut self, seat: usize, line: usize, records: &mut [Record], made: usize) -> usize
         requires on { ⌜ seat < now self .caches .seats ⌝ }

@@ -1,12 +1,10 @@
 use mathlib.Core.Path.{_≡_, refl, sym, ap, _∙_}
 use mathlib.Core.Bool.{false}
-use mathlib.Core.List.{List}
 use borrow.Author.Needs.{needs}
 use lib.ListN.{set}
 use Rattle.protocol.specs.declared.state.State.{State}
-use Rattle.protocol.specs.declared.state.State.the-variants.{Invalid}
 use Rattle.protocol.specs.States.{valid}
-use Rattle.rules.specs.Columns.{Copy, kept, stateAt, wordsAt}
+use Rattle.rules.specs.Columns.{kept, stateAt, wordsAt}
 use Rattle.rules.specs.Transactions.{afterTI}
 use Rattle.rules.specs.Machines.{copiesOf, putEach}
 use Rattle.rules.proofs.Machines.{putEach-same}

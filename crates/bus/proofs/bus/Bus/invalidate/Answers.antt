@@ -1,17 +1,15 @@
 use Prim.Native.Nat.{ℕ}
-use mathlib.Core.Path.{_≡_, refl, sym, ap, _∙_}
-use mathlib.Core.Bool.{Bool, true, false, not}
-use mathlib.Core.List.{List, []}
+use mathlib.Core.Path.{_≡_, refl, ap, _∙_}
+use mathlib.Core.Bool.{Bool, false, not}
 use native.Mathlib.Omega.{arith}
 use borrow.Author.Needs.{needs}
-use lib.ListN.{length, getD, set, length-set}
-use Rattle.protocol.specs.declared.state.State.{State}
+use lib.ListN.{getD, set}
 use Rattle.protocol.specs.declared.state.State.the-variants.{Modified}
 use Rattle.protocol.specs.declared.transaction.Transaction.the-variants.{Invalidate}
 use Rattle.protocol.specs.States.{valid}
 use Rattle.rules.specs.declared.record.Record.{Record}
 use Rattle.rules.specs.declared.record.Supplier.the-variants.{Nobody}
-use Rattle.rules.specs.Columns.{Copy, kept, none, alone, stateAt, wordsAt}
+use Rattle.rules.specs.Columns.{Copy, kept, none, alone, wordsAt}
 use Rattle.rules.specs.Tallies.{tallied}
 use Rattle.rules.specs.Transactions.{invalidate, gone, same, hear}
 use Rattle.rules.specs.Machines.{copiesOf, putEach}

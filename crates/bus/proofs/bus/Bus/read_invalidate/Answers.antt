@@ -1,6 +1,6 @@
 use Prim.Native.Nat.{ℕ}
-use mathlib.Core.Path.{_≡_, refl, sym, ap, _∙_}
-use mathlib.Core.Bool.{Bool, true, false, not}
+use mathlib.Core.Path.{_≡_, refl, ap, _∙_}
+use mathlib.Core.Bool.{Bool, false, not}
 use mathlib.Core.List.{List, []}
 use native.Mathlib.Omega.{arith}
 use borrow.Author.Needs.{needs}
@@ -9,7 +9,7 @@ use Rattle.protocol.specs.declared.state.State.the-variants.{Modified}
 use Rattle.protocol.specs.declared.transaction.Transaction.the-variants.{ReadInvalidate}
 use Rattle.rules.specs.declared.record.Record.{Record}
 use Rattle.rules.specs.declared.record.Supplier.{Supplier}
-use Rattle.rules.specs.Columns.{Copy, kept, none, alone, supplied}
+use Rattle.rules.specs.Columns.{kept, none, alone, supplied}
 use Rattle.rules.specs.Tallies.{tallied}
 use Rattle.rules.specs.Transactions.{readInvalidate, gone, same, hear}
 use Rattle.rules.specs.Machines.{copiesOf, putEach, ownerOrMemory}

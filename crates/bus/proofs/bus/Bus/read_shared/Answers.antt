@@ -1,11 +1,10 @@
 use Prim.Native.Nat.{ℕ}
-use mathlib.Core.Path.{_≡_, refl, sym, ap, subst, _∙_}
-use mathlib.Core.Bool.{Bool, true, not, cond}
+use mathlib.Core.Path.{_≡_, refl, ap, _∙_}
+use mathlib.Core.Bool.{Bool, not, cond}
 use mathlib.Core.List.{List, []}
 use native.Mathlib.Omega.{arith}
 use borrow.Author.Needs.{needs}
 use lib.ListN.{length, getD, set, length-set}
-use Rattle.std.proofs.shelf.Tests.{cond-both}
 use Rattle.protocol.specs.declared.state.State.{State}
 use Rattle.protocol.specs.declared.transaction.Transaction.the-variants.{ReadShared}
 use Rattle.protocol.specs.States.{valid}
@@ -19,7 +18,7 @@ use Rattle.caches.specs.Views.{cachesOf}
 use Rattle.bus.proofs.Counting.{alone-own, not-not}
 use Rattle.bus.proofs.Parts.{transact-is}
 use Rattle.bus.proofs.Reacted.{told-shared, told-lost, told-owner, told-words, told-reflected, reflected-home}
-use Rattle.bus.proofs.Requests.{heard, room-after, own-after, own-there, copies-long}
+use Rattle.bus.proofs.Requests.{room-after, own-after, own-there, copies-long}
 use Rattle.bus.proofs.bus.Bus.read_shared.Needs as need
 
 pub place-requires : need.place-requires

@@ -1,11 +1,10 @@
-use Prim.Native.Nat.{ℕ, _*_, _+_, _<_, _≤_}
-use mathlib.Core.Path.{_≡_, refl, sym, ap, _∙_}
+use Prim.Native.Nat.{ℕ, _≤_}
+use mathlib.Core.Path.{_≡_, refl, sym, ap}
 use mathlib.Core.List.{[]}
 use native.Mathlib.Omega.{arith}
 use native.Mathlib.Numerals.{add-one}
-use borrow.Author.Needs.{needs}
 use lib.ListN.{length, getD}
-use Rattle.rules.specs.Accesses.{flushedSets, flushedSeat}
+use Rattle.rules.specs.Accesses.{flushedSets}
 use Rattle.caches.specs.Views.{cachesOf}
 use Rattle.caches.proofs.Places.{cache-sets}
 use Rattle.bus.specs.Machines.{machineOf}

@@ -1,12 +1,11 @@
 use Prim.Native.Nat.{ℕ}
-use mathlib.Core.Path.{_≡_, refl, sym, ap, _∙_}
-use mathlib.Core.Bool.{Bool, true, false, not}
-use mathlib.Core.List.{List, []}
+use mathlib.Core.Path.{_≡_, refl, ap, _∙_}
+use mathlib.Core.Bool.{Bool, false, not}
+use mathlib.Core.List.{[]}
 use native.Mathlib.Omega.{arith}
 use borrow.Author.Needs.{needs}
 use lib.ListN.{length, getD, set, length-set}
 use Rattle.protocol.specs.declared.state.State.{State}
-use Rattle.protocol.specs.declared.state.State.the-variants.{Modified}
 use Rattle.protocol.specs.declared.transaction.Transaction.the-variants.{ThroughUpdate}
 use Rattle.protocol.specs.States.{valid}
 use Rattle.rules.specs.declared.record.Record.{Record}
@@ -17,7 +16,7 @@ use Rattle.rules.specs.Transactions.{throughUpdate, heardTU, hear, afterTU}
 use Rattle.rules.specs.Machines.{copiesOf, putEach}
 use Rattle.caches.specs.Views.{cachesOf}
 use Rattle.bus.proofs.Counting.{alone-own, not-not}
-use Rattle.bus.proofs.Parts.{transact-is, home-stays}
+use Rattle.bus.proofs.Parts.{transact-is}
 use Rattle.bus.proofs.Reacted.{told-shared, told-lost}
 use Rattle.bus.proofs.Requests.{own-after, copy-after}
 use Rattle.bus.proofs.bus.Bus.through_update.Needs as need

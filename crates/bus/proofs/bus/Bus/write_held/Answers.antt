@@ -1,11 +1,7 @@
-use mathlib.Core.Path.{_≡_, refl, sym, ap, _∙_}
-use mathlib.Core.Bool.{true}
+use mathlib.Core.Path.{_≡_, refl, sym, _∙_}
 use native.Mathlib.Omega.{arith}
 use lib.ListN.{take}
-use Rattle.std.specs.declared.option.Option.{Option}
 use Rattle.std.specs.declared.option.Option.the-variants.{Some, None}
-use Rattle.protocol.specs.declared.state.State.{State}
-use Rattle.protocol.specs.declared.transaction.Transaction.{Transaction}
 use Rattle.protocol.specs.declared.transaction.Transaction.the-variants.{ReadShared, ReadInvalidate, Invalidate, Update, ThroughUpdate, ThroughInvalidate, WriteBack}
 use Rattle.rules.specs.Columns.{stateAt}
 use Rattle.rules.specs.Machines.{copiesOf}
