@@ -3,9 +3,8 @@
 mod limit;
 #[cfg(test)]
 mod mixed;
+mod places;
 #[cfg(test)]
 mod sizes;
-
-mod places;
 
 pub use places::record_places;

@@ -1,6 +1,6 @@
 // A run answers a million calls and no more, and closes all the same.
 use crate::places::record_places;
-use caches::agree;
+use caches::Agreed;
 use memory::Memory;
 use memory::Plain;
 use memory::PlainMemory;
@@ -10,8 +10,8 @@ use protocol::PublishedProtocol;
 use refusal::Refusal;
 use refusal::RefusalDebug;
 use refusal::RefusalPartialEq;
+use run::Closed;
 use run::Run;
-use run::open;
 use std::test::*;
 
 // Makes so many writes, in turn by two seats and over sixteen addresses, and counts those answered.
@@ -29,8 +29,8 @@ fn write_many<P: Protocol, M: Memory>(run: &mut Run<P, M>, count: u32) -> u32 {
 #[test]
 fn the_millionth_call_is_the_last(rt: LibcRuntime) -> Result<(), Fail> {
     let words = vec![in rt.alloc(); 0u32; 16]?;
-    let agreed = agree(2, 2)?;
-    let (mut run, ticket) = open(agreed, Published::Berkeley, Plain::new(words));
+    let agreed = Agreed::agree(2, 2)?;
+    let (mut run, ticket) = Run::open(agreed, Published::Berkeley, Plain::new(words));
     let mut records = record_places();
     let answered = write_many(&mut run, 999_999);
     let last = run.write(0, 5, 77, &mut records);
@@ -39,8 +39,12 @@ fn the_millionth_call_is_the_last(rt: LibcRuntime) -> Result<(), Fail> {
     let flush = run.flush(9, 99, &mut records);
     let settle = run.settle();
     let calls = run.calls();
-    let closed = run.close(ticket);
-    let line = closed.memory.read_line(1);
+    let Closed {
+        memory,
+        tally,
+        written: _,
+    } = run.close(ticket);
+    let line = memory.read_line(1);
     check_eq(answered, 999_999)?;
     check(last.is_ok())?;
     check_eq(write.err(), Some(Refusal::CallLimit))?;
@@ -48,6 +52,6 @@ fn the_millionth_call_is_the_last(rt: LibcRuntime) -> Result<(), Fail> {
     check_eq(flush.err(), Some(Refusal::CallLimit))?;
     check_eq(settle.err(), Some(Refusal::CallLimit))?;
     check_eq(calls, 1_000_000)?;
-    check_eq(closed.tally.writes, 1_000_000)?;
+    check_eq(tally.writes, 1_000_000)?;
     check_eq(line.ok(), Some([999_988, 77, 999_990, 999_991]))
 }

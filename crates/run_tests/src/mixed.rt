@@ -1,6 +1,6 @@
 // A million accesses on eight seats under seven protocols: the sums that an independent implementation of the rules gives.
 use crate::places::record_places;
-use caches::agree;
+use caches::Agreed;
 use memory::Memory;
 use memory::Plain;
 use memory::PlainMemory;
@@ -9,8 +9,8 @@ use protocol::Published;
 use protocol::PublishedProtocol;
 use protocol::Split;
 use protocol::SplitProtocol;
+use run::Closed;
 use run::Run;
-use run::open;
 use std::test::*;
 
 // What was answered: the words in turn, and how many records were made.
@@ -39,7 +39,9 @@ fn access<P: Protocol, M: Memory>(run: &mut Run<P, M>, x: u64, sums: Sums) -> Su
     };
     match reply {
         Ok(reply) => Sums {
-            checksum: sums.checksum.wrapping_mul(31).wrapping_add(u64::from(reply.value)),
+            checksum: sums.checksum
+                .wrapping_mul(31)
+                .wrapping_add(u64::from(reply.value)),
             records: sums.records.wrapping_add(reply.records as u64),
         },
         Err(_) => sums,
@@ -63,7 +65,7 @@ fn access_many<P: Protocol, M: Memory>(run: &mut Run<P, M>, count: u32) -> Sums 
 #[test]
 fn a_million_accesses(rt: LibcRuntime) -> Result<(), Fail> {
     let words = vec![in rt.alloc(); 0u32; 4096]?;
-    let agreed = agree(8, 64)?;
+    let agreed = Agreed::agree(8, 64)?;
     let protocol = Split {
         first: Split {
             first: Split {
@@ -93,15 +95,24 @@ fn a_million_accesses(rt: LibcRuntime) -> Result<(), Fail> {
             },
         },
     };
-    let (mut run, ticket) = open(agreed, protocol, Plain::new(words));
+    let (mut run, ticket) = Run::open(agreed, protocol, Plain::new(words));
     let sums = access_many(&mut run, 1_000_000);
-    let closed = run.close(ticket);
-    let tally = closed.tally;
+    let Closed {
+        memory: _,
+        tally,
+        written,
+    } = run.close(ticket);
     check_eq(sums.checksum, 5694734681096072051)?;
     check_eq(sums.records, 1_272_072)?;
-    check_eq(closed.written, 151)?;
-    check_eq((tally.reads, tally.writes, tally.hits), (500_345, 499_655, 50_063))?;
+    check_eq(written, 151)?;
+    check_eq(
+        (tally.reads, tally.writes, tally.hits),
+        (500_345, 499_655, 50_063),
+    )?;
     check_eq((tally.rs, tally.rx, tally.inv), (593_641, 236_776, 4_614))?;
     check_eq((tally.up, tally.tu, tally.ti), (19_849, 19_994, 126_793))?;
-    check_eq((tally.wb, tally.reflected, tally.invalidated), (270_556, 44_376, 165_274))
+    check_eq(
+        (tally.wb, tally.reflected, tally.invalidated),
+        (270_556, 44_376, 165_274),
+    )
 }

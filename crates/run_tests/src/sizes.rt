@@ -1,5 +1,5 @@
 // The sizes that are agreed and refused, and the lines that words make.
-use caches::agree;
+use caches::Agreed;
 use memory::Memory;
 use memory::Plain;
 use memory::PlainMemory;
@@ -10,11 +10,11 @@ use std::test::*;
 
 #[test]
 fn sixty_four_sets_are_agreed() -> Result<(), Fail> {
-    check(agree(8, 64).is_ok())?;
-    check_eq(agree(8, 128).err(), Some(Refusal::Sets))?;
-    check_eq(agree(9, 128).err(), Some(Refusal::Seats))?;
-    check_eq(agree(0, 1).err(), Some(Refusal::Seats))?;
-    check_eq(agree(1, 3).err(), Some(Refusal::Sets))
+    check(Agreed::agree(8, 64).is_ok())?;
+    check_eq(Agreed::agree(8, 128).err(), Some(Refusal::Sets))?;
+    check_eq(Agreed::agree(9, 128).err(), Some(Refusal::Seats))?;
+    check_eq(Agreed::agree(0, 1).err(), Some(Refusal::Seats))?;
+    check_eq(Agreed::agree(1, 3).err(), Some(Refusal::Sets))
 }
 
 #[test]

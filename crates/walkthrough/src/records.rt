@@ -13,7 +13,15 @@ pub fn print_record(rt: &impl Print, record: &Record) -> io::Result<()> {
     if record.reflected {
         print!(rt, ", memory receives it too")?;
     }
-    println!(rt, "{}", if record.shared { "; others hold it" } else { "; no other seat holds it" })
+    println!(
+        rt,
+        "{}",
+        if record.shared {
+            "; others hold it"
+        } else {
+            "; no other seat holds it"
+        }
+    )
 }
 
 // Who supplied the line, where somebody did.

@@ -43,7 +43,11 @@ pub fn print_reply<P: Protocol, M: Memory>(
 }
 
 // The state of the line in each seat.
-fn print_states<P: Protocol, M: Memory>(rt: &impl Print, run: &Run<P, M>, line: usize) -> io::Result<()> {
+fn print_states<P: Protocol, M: Memory>(
+    rt: &impl Print,
+    run: &Run<P, M>,
+    line: usize,
+) -> io::Result<()> {
     for seat in 0..run.seats() {
         if let Ok(state) = run.state(seat, line) {
             print!(rt, " {}", state.name())?;
