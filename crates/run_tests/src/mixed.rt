@@ -9,6 +9,7 @@ use protocol::Published;
 use protocol::PublishedProtocol;
 use protocol::Split;
 use protocol::SplitProtocol;
+use refusal::RefusalDebug;
 use run::Closed;
 use run::Run;
 use std::test::*;
