@@ -1,3 +1,13 @@
-// Runs on examples: a session replayed, and calls refused in their order.
+// Tests of whole runs: a session replayed, refusals in their order, the call limit, the sizes, many accesses under seven protocols.
+#[cfg(test)]
+mod limit;
+#[cfg(test)]
+mod mixed;
+#[cfg(test)]
+mod sizes;
 #[cfg(test)]
 mod tests;
+
+mod places;
+
+pub use places::record_places;
