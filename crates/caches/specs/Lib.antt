@@ -1,0 +1,5 @@
+pub mod Sizes
+pub mod Lines
+pub mod Hearing
+pub mod Heeding
+pub mod Views
