@@ -1,1 +1,4 @@
 pub mod Naming
+pub mod Parting
+pub mod Running
+pub mod Valuing

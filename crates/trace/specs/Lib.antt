@@ -1,1 +1,4 @@
 pub mod Choices
+pub mod Faults
+pub mod Reading
+pub mod Runs
