@@ -1,4 +1,5 @@
 pub mod Choices
 pub mod Faults
+pub mod Lines
 pub mod Reading
 pub mod Runs

@@ -3,6 +3,7 @@
 -- Outcome   a value and the place behind it, or the line's fault
 -- andThen   reading goes on behind what was read
 -- Reads     what a reader answers and where it then stands: behind the value, or where it stood
+-- Comes     the same, with the place left open at a fault
 -- nextAt    the next byte, if the text does not end here
 -- byteAt    just this byte
 -- valueOn   the number that digits write, and fitting that it fits 32 bits
@@ -39,6 +40,11 @@ andThen (Err e) f = Err e
 abbrev pub Reads : {A : Type 0} → Outcome A → ℕ → Result A LineFault → ℕ → Type 0
 Reads o i (Ok x) j = o ≡ Ok (x, j)
 Reads o i (Err e) j = (o ≡ Err e) × (j ≡ i)
+
+-- a reading came to this answer, and to the place j where it has a value
+abbrev pub Comes : {A : Type 0} → Outcome A → Result A LineFault → ℕ → Type 0
+Comes o (Ok x) j = o ≡ Ok (x, j)
+Comes o (Err e) j = o ≡ Err e
 
 -- the next byte, if there is one
 unfoldable pub nextAt : List ℕ → ℕ → Option ℕ

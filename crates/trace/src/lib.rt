@@ -1,4 +1,6 @@
 // The trace text: its lines, its faults, and the words that choose a protocol.
+mod access;
+mod bus_line;
 mod choice;
 mod fault;
 mod layer;
@@ -8,6 +10,10 @@ mod reader;
 mod value;
 mod word;
 
+pub use access::Access;
+pub use bus_line::BusLine;
+pub use bus_line::Numeral;
+pub use bus_line::Second;
 pub use choice::Choice;
 pub use choice::ChoiceProtocol;
 pub use fault::LineFault;

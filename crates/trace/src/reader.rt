@@ -11,4 +11,6 @@ pub struct Reader<'a> {
     ghost within: { at ≤ length (now text) },
 }
 
+mod accesses;
+mod buses;
 mod parts;
