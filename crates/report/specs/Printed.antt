@@ -7,7 +7,7 @@
 -- tallyLine    `tally` and each number behind its name
 -- memoryLines  `m LINE W0 W1 W2 W3` for each line that is not all zero, upward
 -- printed      the whole report
-use Prim.Native.Nat.{ℕ, zero, suc}
+use Prim.Native.Nat.{ℕ, suc}
 use mathlib.Core.Bool.{Bool, true, false, cond, _&&_}
 use mathlib.Core.List.{List, [], _∷_, _++_}
 use lib.Chars.{codes}
@@ -15,6 +15,7 @@ use lib.Dec.{eqb}
 use Rattle.std.specs.declared.option.Option.{Option}
 use Rattle.std.specs.declared.option.Option.the-variants.{Some, None}
 use Rattle.std.specs.Written.{decimal}
+use Rattle.std.specs.shelf.Lists.{joined}
 use Rattle.protocol.specs.declared.state.State.{State}
 use Rattle.protocol.specs.States.{letter}
 use Rattle.protocol.specs.Transactions.{mnemonic}
@@ -38,8 +39,7 @@ accessText Settle = codes "s"
 
 -- one letter for each seat
 abbrev pub letters : List State → List ℕ
-letters [] = []
-letters (s ∷ ss) = letter s ∷ letters ss
+letters states = joined (λ s. letter s ∷ []) states
 
 -- a transaction and the seat that made it
 abbrev pub recordText : Record → List ℕ
@@ -47,8 +47,7 @@ recordText e = codes " " ++ (mnemonic (e .transaction) ++ decimal (e .seat))
 
 -- each transaction, oldest first
 abbrev pub recordTexts : List Record → List ℕ
-recordTexts [] = []
-recordTexts (e ∷ es) = recordText e ++ recordTexts es
+recordTexts records = joined recordText records
 
 -- the state of the line in each seat, and each transaction; a settle has no line of its own
 abbrev pub detailText : Access → List State → List Record → List ℕ
@@ -64,8 +63,7 @@ stepLine p =
 
 -- each access performed, in order
 abbrev pub stepLines : List Performed → List ℕ
-stepLines [] = []
-stepLines (p ∷ ps) = stepLine p ++ stepLines ps
+stepLines steps = joined stepLine steps
 
 -- the name of a layer
 abbrev pub layerName : Layer → List ℕ
@@ -101,6 +99,10 @@ fillCounts t = codes " rs " ++ (decimal (t .rs) ++ (codes " rx " ++ (decimal (t 
 abbrev pub throughCounts : Tally → List ℕ
 throughCounts t = codes " tu " ++ (decimal (t .tu) ++ (codes " ti " ++ (decimal (t .ti) ++ (codes " wb " ++ decimal (t .wb)))))
 
+-- the seven transactions
+abbrev pub transactionCounts : Tally → List ℕ
+transactionCounts t = fillCounts t ++ throughCounts t
+
 -- what became of lines and copies
 abbrev pub copyCounts : Tally → List ℕ
 copyCounts t =
@@ -108,7 +110,7 @@ copyCounts t =
 
 -- the tally
 abbrev pub tallyLine : Tally → List ℕ
-tallyLine t = accessCounts t ++ (fillCounts t ++ (throughCounts t ++ copyCounts t))
+tallyLine t = accessCounts t ++ (transactionCounts t ++ copyCounts t)
 
 -- every word is 0
 abbrev pub allZero : List ℕ → Bool
@@ -117,8 +119,7 @@ allZero (w ∷ ws) = eqb w 0 && allZero ws
 
 -- each word behind a space
 abbrev pub wordsText : List ℕ → List ℕ
-wordsText [] = []
-wordsText (w ∷ ws) = codes " " ++ (decimal w ++ wordsText ws)
+wordsText words = joined (λ w. codes " " ++ decimal w) words
 
 -- a line of memory and its words
 abbrev pub memoryLine : ℕ → List ℕ → List ℕ

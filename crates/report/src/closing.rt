@@ -4,7 +4,7 @@ ghost use mathlib.Core.List.{_++_};
 ghost use Rattle.std.specs.Of.String.{string-bytes};
 ghost use Rattle.std.specs.Vec.{made};
 ghost use Rattle.account.specs.Accounts.{closingOf};
-ghost use Rattle.report.specs.Printed.{closeLine, accessCounts, fillCounts, throughCounts, copyCounts, tallyLine, closingLines};
+ghost use Rattle.report.specs.Printed.{closeLine, accessCounts, fillCounts, throughCounts, transactionCounts, copyCounts, tallyLine, closingLines};
 use crate::memory_lines::write_memory;
 use account::Ran;
 use rules::Tally;
@@ -31,9 +31,16 @@ fn write_tally(out: &mut String, tally: Tally) -> fmt::Result
     ensures { λ r. ⌜ made r (λ _. string-bytes (now (out .exit)) ≡ string-bytes (now (out .entry)) ++ tallyLine tally) ⌝ }
 {
     write_accesses(out, tally)?;
-    write_fills(out, tally)?;
-    write_throughs(out, tally)?;
+    write_transactions(out, tally)?;
     write_copies(out, tally)
+}
+
+// How often each transaction was made.
+fn write_transactions(out: &mut String, tally: Tally) -> fmt::Result
+    ensures { λ r. ⌜ made r (λ _. string-bytes (now (out .exit)) ≡ string-bytes (now (out .entry)) ++ transactionCounts tally) ⌝ }
+{
+    write_fills(out, tally)?;
+    write_throughs(out, tally)
 }
 
 // Reads, writes and hits.

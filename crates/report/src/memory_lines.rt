@@ -16,8 +16,9 @@ pub(crate) fn write_memory(out: &mut String, memory: &Plain) -> fmt::Result
     ensures { λ r. ⌜ made r (λ _. string-bytes (now (out .exit)) ≡ string-bytes (now (out .entry)) ++ memoryLines 0 (plainLines (now (memory .entry)))) ⌝ }
 {
     for line in 0..memory.count() {
-        if let Ok(words) = memory.read_line(line) {
-            write_line_if(out, line, &words)?;
+        match memory.read_line(line) {
+            Ok(words) => write_line_if(out, line, &words)?,
+            Err(_) => {}
         }
     }
     Ok(())

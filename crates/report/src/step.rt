@@ -64,13 +64,20 @@ fn write_states(out: &mut String, states: &[State]) -> fmt::Result
     ensures { λ r. ⌜ made r (λ _. string-bytes (now (out .exit)) ≡ string-bytes (now (out .entry)) ++ letters (now (states .entry))) ⌝ }
 {
     for state in states {
-        let letter = letter_text(*state);
-        write!(out, "{letter}")?;
+        write_state(out, *state)?;
     }
     Ok(())
 }
 
 // The letter of a state.
+fn write_state(out: &mut String, state: State) -> fmt::Result
+    ensures { λ r. ⌜ made r (λ _. string-bytes (now (out .exit)) ≡ string-bytes (now (out .entry)) ++ (letter state ∷ [])) ⌝ }
+{
+    let letter = letter_text(state);
+    write!(out, "{letter}")
+}
+
+// The letter of a state as text.
 fn letter_text(state: State) -> &'static str
     ensures { λ r. ⌜ now r ≡ letter state ∷ [] ⌝ }
 {
@@ -87,17 +94,17 @@ fn letter_text(state: State) -> &'static str
 fn write_records(out: &mut String, records: &[Record]) -> fmt::Result
     ensures { λ r. ⌜ made r (λ _. string-bytes (now (out .exit)) ≡ string-bytes (now (out .entry)) ++ recordTexts (now (records .entry))) ⌝ }
 {
-    for record in records {
-        write_record(out, record)?;
+    for event in records {
+        write_record(out, event)?;
     }
     Ok(())
 }
 
 // A transaction with its seat.
-fn write_record(out: &mut String, record: &Record) -> fmt::Result
-    ensures { λ r. ⌜ made r (λ _. string-bytes (now (out .exit)) ≡ string-bytes (now (out .entry)) ++ recordText (now (record .entry))) ⌝ }
+fn write_record(out: &mut String, event: &Record) -> fmt::Result
+    ensures { λ r. ⌜ made r (λ _. string-bytes (now (out .exit)) ≡ string-bytes (now (out .entry)) ++ recordText (now (event .entry))) ⌝ }
 {
-    let mnemonic = record.transaction.mnemonic();
-    let seat = record.seat;
+    let mnemonic = event.transaction.mnemonic();
+    let seat = event.seat;
     write!(out, " {mnemonic}{seat}")
 }
