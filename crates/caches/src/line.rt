@@ -34,19 +34,19 @@ impl CacheLine {
             (State::Owned, Heard::ReadShared) => self.state = cell_state(protocol, seat, 11),
             (State::Modified, Heard::ReadShared) => self.state = cell_state(protocol, seat, 12),
             (State::Shared, Heard::Update { word, value }) => {
-                self.state = cell_state(protocol, seat, 13);
+                self.state = cell_state(protocol, seat, 13); // heard at Shared
                 self.words[word] = value;
             }
             (State::Exclusive, Heard::Update { word, value }) => {
-                self.state = cell_state(protocol, seat, 13);
+                self.state = cell_state(protocol, seat, 13); // Exclusive counts as Shared
                 self.words[word] = value;
             }
             (State::Owned, Heard::Update { word, value }) => {
-                self.state = cell_state(protocol, seat, 14);
+                self.state = cell_state(protocol, seat, 14); // heard at Owned
                 self.words[word] = value;
             }
             (State::Modified, Heard::Update { word, value }) => {
-                self.state = cell_state(protocol, seat, 14);
+                self.state = cell_state(protocol, seat, 14); // Modified counts as Owned
                 self.words[word] = value;
             }
             (State::Shared, Heard::ThroughUpdate { word, value }) => {

@@ -1,17 +1,17 @@
 -- Reads and writes keep the bus good; a read leaves the seat with the line, a write changes the newest words.
-use Prim.Native.Nat.{ℕ, zero, suc, _+_, _*_, _<_, _≤_}
+use Prim.Native.Nat.{ℕ, _+_, _<_}
 use native.Mathlib.Nat.{zero-add}
 use native.Mathlib.Omega.{arith}
 use mathlib.Core.Path.{_≡_, refl, sym, _∙_, ap, subst}
-use mathlib.Core.Logic.{_≢_, _⊎_, inl, inr, ⊎-elim}
-use mathlib.Core.Bool.{Bool, true, false, not, _&&_, _||_, cond}
-use mathlib.Core.List.{List, [], _∷_, map}
+use mathlib.Core.Logic.{_⊎_, inl, inr, ⊎-elim}
+use mathlib.Core.Bool.{Bool, true, false}
+use mathlib.Core.List.{List, [], _∷_}
 use lib.Dec.{eqb}
 use lib.Chars.{codes}
 use lib.ListN.{length, getD, set}
 use Rattle.std.specs.declared.option.Option.{Option}
 use Rattle.std.specs.declared.option.Option.the-variants.{Some, None}
-use Rattle.std.proofs.shelf.Tests.{cases-eq, cases-bool, both-ways, false≢true, eqb-true, or-cases}
+use Rattle.std.proofs.shelf.Tests.{cases-eq, both-ways, false≢true, eqb-true, or-cases}
 use Rattle.std.proofs.shelf.Lists.{length-set, getD-set-same, getD-set-other, set-getD}
 use Rattle.protocol.specs.declared.state.State.{State}
 use Rattle.protocol.specs.declared.state.State.the-variants.{Invalid, Shared, Exclusive, Owned, Modified}
@@ -22,17 +22,14 @@ use Rattle.protocol.specs.Transactions.{digitTransaction}
 use Rattle.protocol.specs.Cells.{among, Lawful}
 use Rattle.rules.specs.declared.tally.Tally.{Tally}
 use Rattle.rules.specs.Columns.{Copy, none, kept, Column, stateAt, wordsAt, one, holders, ownerOf}
-use Rattle.rules.specs.Transactions.{Protocol, readShared, readInvalidate, invalidate, update, throughUpdate, throughInvalidate, writeBack, silent, dropped}
-use Rattle.rules.specs.Caches.{Cache, look, room}
+use Rattle.rules.specs.Transactions.{Protocol, readShared, readInvalidate, invalidate, update, throughUpdate, throughInvalidate, writeBack, silent}
 use Rattle.rules.specs.Machines.{Machine, column, copiesOf, copiesHeld, holds, change, transact}
 use Rattle.rules.specs.Accesses.{stateIn, emptied, filled, fetchedIf, fetched, ownerWritesBack, savedFrom, through, sentBy, writtenAt, writtenHeld, missedBy, writtenIf, written}
 use Rattle.rules.specs.Coherence.{Sizes}
-use Rattle.rules.proofs.Tables.{exclusive-valid}
 use Rattle.rules.proofs.Seats.{holders-set, Found, owner-owns}
-use Rattle.rules.proofs.Lines.{Coherent, Moved}
+use Rattle.rules.proofs.Lines.{Moved}
 use Rattle.rules.proofs.Turns.{readShared-moved, readInvalidate-moved, invalidate-moved, update-moved, throughUpdate-moved, throughInvalidate-moved, silent-moved}
-use Rattle.rules.proofs.Machines.{Sound}
-use Rattle.rules.proofs.Steps.{Good, Balanced, transact-good, transact-holds, change-sound, change-held, seats-of, fillsBy, on-column, held-room, back-good, back-caches, back-saved, Emptied, emptied-good}
+use Rattle.rules.proofs.Steps.{Good, Balanced, transact-good, transact-holds, change-sound, change-held, seats-of, fillsBy, on-column, held-room, back-good, back-saved, Emptied, emptied-good}
 
 -- what holds at each number of a list holds at one among them
 abbrev AllOf : (ℕ → Type 0) → List ℕ → Type 0

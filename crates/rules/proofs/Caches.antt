@@ -6,17 +6,17 @@ use Prim.Native.Nat.{ℕ, zero, suc, _+_, _%_, _<_, _≤_}
 use native.Mathlib.Nat.{mod-lt}
 use native.Mathlib.Omega.{arith}
 use mathlib.Core.Path.{_≡_, refl, sym, _∙_, ap, subst}
-use mathlib.Core.Logic.{_≢_, _⊎_, inl, inr, ⊎-elim}
-use mathlib.Core.Bool.{Bool, true, false, not, _&&_, _||_, cond}
+use mathlib.Core.Logic.{_≢_, ⊎-elim}
+use mathlib.Core.Bool.{Bool, true, false, cond}
 use mathlib.Core.List.{List, [], _∷_}
 use lib.Dec.{eqb}
 use lib.ListN.{length, getD, set, replicate}
-use Rattle.std.proofs.shelf.Tests.{cases-eq, cases-lt, cases-bool, eq-eqb, ne-eqb, or-parts, or-left, or-right, both-ways, false≢true}
+use Rattle.std.proofs.shelf.Tests.{cases-eq, cases-lt, eq-eqb, ne-eqb, or-parts, or-left, or-right, both-ways}
 use Rattle.std.proofs.shelf.Lists.{length-set, getD-set-same, getD-set-other, set-getD, getD-past, length-replicate, getD-replicate}
 use Rattle.protocol.specs.States.{valid}
 use Rattle.protocol.specs.Cells.{among}
 use Rattle.rules.specs.Columns.{Copy, none, one}
-use Rattle.rules.specs.Caches.{Slot, vacant, find, has, gap, putIn, lowest, linesOf, fullIn, Cache, setOf, look, room, victim, put, heldIn, linesAt, fresh}
+use Rattle.rules.specs.Caches.{Slot, vacant, find, has, gap, putIn, fullIn, Cache, setOf, look, room, victim, put, heldIn, linesAt, fresh}
 use Rattle.rules.proofs.Sets.{times, tidy, find-absent, find-held, find-put-same, find-put-other, times-put, times-absent, full-put, has-put, length-putIn, lowest-stands, gap-removed, among-lines, empty-set, empty-full, none-full, put-find}
 
 -- a cache in order, for a memory of so many lines

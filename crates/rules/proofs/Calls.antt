@@ -5,37 +5,35 @@ use Prim.Native.Nat.{ℕ, zero, suc, _+_, _*_, _/_, _%_, _<_, _≤_}
 use native.Mathlib.Nat.{mod-lt, div-lt-iff-lt-mul, div-add-mod}
 use native.Mathlib.Omega.{arith}
 use mathlib.Core.Path.{_≡_, refl, sym, _∙_, ap, subst}
-use mathlib.Core.Logic.{_≢_, _⊎_, inl, inr, ⊎-elim}
+use mathlib.Core.Logic.{_≢_, ⊎-elim}
 use mathlib.Core.Bool.{Bool, true, false, cond}
-use mathlib.Core.List.{List, [], _∷_, map}
+use mathlib.Core.List.{List, []}
 use lib.Dec.{eqb, leb, ltb}
 use lib.ListN.{length, getD, set, replicate}
 use Rattle.std.specs.declared.option.Option.{Option}
 use Rattle.std.specs.declared.option.Option.the-variants.{Some, None}
 use Rattle.std.proofs.shelf.Tests.{cases-eq, cases-lt, eq-eqb, ne-eqb, leb-false, cond-true, cond-false, false≢true}
-use Rattle.std.proofs.shelf.Lists.{length-set, getD-set-same, getD-set-other, getD-past, getD-replicate, length-replicate}
+use Rattle.std.proofs.shelf.Lists.{getD-set-same, getD-set-other, getD-past, getD-replicate, length-replicate}
 use Rattle.refusal.specs.Refusals.{Told, plain}
-use Rattle.protocol.specs.declared.state.State.{State}
-use Rattle.protocol.specs.declared.state.State.the-variants.{Invalid, Shared, Exclusive, Owned, Modified}
-use Rattle.protocol.specs.States.{valid, owned}
+use Rattle.protocol.specs.declared.state.State.the-variants.{Invalid}
+use Rattle.protocol.specs.States.{valid}
 use Rattle.protocol.specs.Cells.{Lawful}
 use Rattle.rules.specs.declared.call.Call.{Call}
 use Rattle.rules.specs.declared.call.Call.the-variants.{Read, Write, Flush, Settle}
-use Rattle.rules.specs.declared.tally.Tally.{Tally}
-use Rattle.rules.specs.Columns.{Copy, none, stateAt, wordsAt}
+use Rattle.rules.specs.Columns.{Copy, none, stateAt}
 use Rattle.rules.specs.Transactions.{Protocol}
 use Rattle.rules.specs.Caches.{Cache, look, fresh}
 use Rattle.rules.specs.Tallies.{oneRead, oneWrite}
-use Rattle.rules.specs.Machines.{Machine, column, copiesOf, copiesHeld, holds}
-use Rattle.rules.specs.Accesses.{counting, fetched, written, flushed, settled}
+use Rattle.rules.specs.Machines.{Machine, copiesOf, copiesHeld, holds}
+use Rattle.rules.specs.Accesses.{counting}
 use Rattle.rules.specs.Systems.{System, opened, atWork, limit, placesNeeded, dueAccess, due, dueIn, wordOf, reached, ended, outcomeIf, outcome}
 use Rattle.rules.specs.Ledgers.{Ledger, begun, enteredIf, entered}
 use Rattle.rules.specs.Coherence.{Sizes, addresses, Sized, Since, opening, calling}
-use Rattle.rules.proofs.Tables.{agree, agree-unheld}
+use Rattle.rules.proofs.Tables.{agree-unheld}
 use Rattle.rules.proofs.Lines.{Coherent}
 use Rattle.rules.proofs.Caches.{Wf, fresh-wf, fresh-look, fresh-held}
-use Rattle.rules.proofs.Machines.{Sound, lineIn, column-at}
-use Rattle.rules.proofs.Steps.{Good, Balanced, flushed-good}
+use Rattle.rules.proofs.Machines.{column-at}
+use Rattle.rules.proofs.Steps.{Good, flushed-good}
 use Rattle.rules.proofs.Accesses.{fetched-good, written-good}
 use Rattle.rules.proofs.Settling.{settled-good}
 

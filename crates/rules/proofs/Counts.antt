@@ -1,20 +1,17 @@
 -- How many records each step makes: an access four at most.
 use Prim.Native.Nat.{ℕ, _+_, _≤_}
 use native.Mathlib.Omega.{arith}
-use mathlib.Core.Path.{_≡_, refl, sym, _∙_, ap, subst}
+use mathlib.Core.Path.{_≡_, refl}
 use mathlib.Core.Bool.{Bool, true, false}
-use mathlib.Core.List.{List, [], _∷_}
+use mathlib.Core.List.{[]}
 use lib.ListN.{length, getD, set}
 use Rattle.std.specs.declared.option.Option.{Option}
 use Rattle.std.specs.declared.option.Option.the-variants.{Some, None}
 use Rattle.std.proofs.shelf.Lists.{length-push}
-use Rattle.refusal.specs.Refusals.{Told}
 use Rattle.protocol.specs.declared.state.State.{State}
 use Rattle.protocol.specs.declared.state.State.the-variants.{Invalid, Shared, Exclusive, Owned, Modified}
 use Rattle.protocol.specs.declared.transaction.Transaction.{Transaction}
 use Rattle.protocol.specs.declared.transaction.Transaction.the-variants.{ReadShared, ReadInvalidate, Invalidate, Update, ThroughUpdate, ThroughInvalidate, WriteBack}
-use Rattle.rules.specs.declared.call.Call.{Call}
-use Rattle.rules.specs.declared.call.Call.the-variants.{Read, Write, Flush, Settle}
 use Rattle.protocol.specs.States.{owned}
 use Rattle.protocol.specs.Transactions.{digitTransaction}
 use Rattle.rules.specs.Columns.{Column, none, ownerOf}
@@ -22,7 +19,6 @@ use Rattle.rules.specs.Caches.{room, victim}
 use Rattle.rules.specs.Transactions.{Protocol, dropped, silent, readShared, readInvalidate, invalidate, update, throughUpdate, throughInvalidate, writeBack}
 use Rattle.rules.specs.Machines.{Machine, column, holds, recordOf, change, transact}
 use Rattle.rules.specs.Accesses.{stateIn, writtenBackIf, letGo, emptiedIf, emptied, flushedIf, flushed, filled, fetchedIf, fetched, ownerWritesBack, savedFrom, through, sentBy, writtenAt, writtenHeld, missedBy, writtenIf, written}
-use Rattle.rules.specs.Systems.{System, outcomeIf, outcome, placesNeeded}
 
 -- the records made so far
 abbrev pub made : Machine → ℕ

@@ -1,20 +1,21 @@
 -- The laws of whole calls.
 --
--- Honest   what was told so far of write backs is by owners of the beginning, and every owner owned then
-use Prim.Native.Nat.{ℕ, zero, suc, _+_, _*_, _/_, _%_, _<_, _≤_}
+-- Fair     a record's write back is by an owner of the beginning, and its supplier is one, or memory where there was none
+-- Honest   all that was told so far is fair, and every owner owned at the beginning
+use Prim.Native.Nat.{ℕ, _+_, _/_, _%_, _<_, _≤_}
 use native.Mathlib.Nat.{zero-add}
 use native.Mathlib.Omega.{arith}
 use mathlib.Core.Path.{_≡_, refl, sym, _∙_, ap, subst}
-use mathlib.Core.Logic.{_≢_, _⊎_, inl, inr, ⊎-elim}
+use mathlib.Core.Logic.{_≢_, ⊎-elim}
 use mathlib.Core.Bool.{Bool, true, false, cond}
 use mathlib.Core.List.{List, [], _∷_, _++_, map}
 use lib.ListN.{length, getD, set}
 use Rattle.std.specs.declared.option.Option.{Option}
 use Rattle.std.specs.declared.option.Option.the-variants.{Some, None}
 use Rattle.std.specs.shelf.Lists.{All}
-use Rattle.std.proofs.shelf.Elements.{all-push}
+use Rattle.std.proofs.shelf.Elements.{all-push, all-weaker}
 use Rattle.std.proofs.shelf.Lists.{getD-set-same, getD-set-other, map-set}
-use Rattle.std.proofs.shelf.Tests.{cases-eq, cases-lt, cases-bool, both-ways, false≢true}
+use Rattle.std.proofs.shelf.Tests.{cases-eq, both-ways, false≢true}
 use Rattle.refusal.specs.Refusals.{Told}
 use Rattle.protocol.specs.declared.state.State.{State}
 use Rattle.protocol.specs.declared.state.State.the-variants.{Invalid, Shared, Exclusive, Owned, Modified}
@@ -29,19 +30,19 @@ use Rattle.rules.specs.declared.record.Record.{Record}
 use Rattle.rules.specs.Columns.{Copy, none, Column, stateAt, one, alone, supplied, ownerOf}
 use Rattle.rules.specs.Transactions.{Protocol, hear, heardRS, afterRS, same, readShared, readInvalidate, invalidate, update, throughUpdate, throughInvalidate, writeBack, silent, dropped}
 use Rattle.rules.specs.Caches.{Cache, look, room, victim, put}
-use Rattle.rules.specs.Machines.{Machine, column, copiesOf, putEach, holds, recordOf, change, transact}
+use Rattle.rules.specs.Machines.{Machine, column, copiesOf, holds, recordOf, change, transact, supplierOf, ownerOrMemory}
 use Rattle.rules.specs.Accesses.{stateIn, writtenBackIf, letGo, emptiedIf, emptied, flushedIf, flushed, filled, fetchedIf, fetched, ownerWritesBack, savedFrom, through, sentBy, writtenAt, writtenHeld, missedBy, writtenIf, written, settled}
 use Rattle.rules.specs.Systems.{System, Outcome, stateOn, atWork, placesNeeded, dueIn, reached, ended, outcomeIf, outcome, after}
 use Rattle.rules.specs.Ledgers.{Ledger}
-use Rattle.rules.specs.Coherence.{Sizes, addresses, Since}
-use Rattle.rules.specs.Laws.{displacedIf, displaced, ByOwner, BusLaws}
+use Rattle.rules.specs.Coherence.{Sizes, addresses}
+use Rattle.rules.specs.Laws.{displacedIf, displaced, ByOwner, moves, MovedBy, BySupplier, BusLaws}
 use Rattle.rules.proofs.Tables.{below-owned, below-RS, owned-RS, unheld-unowned}
 use Rattle.rules.proofs.Seats.{Found, owner-owns}
 use Rattle.rules.proofs.Lines.{Turned, by-hearing}
 use Rattle.rules.proofs.Sets.{tidy}
 use Rattle.rules.proofs.Caches.{Wf, look-put-same, look-put-other, victim-line, victim-other}
-use Rattle.rules.proofs.Machines.{Sound, column-at, putEach-same, tidy-stateAt}
-use Rattle.rules.proofs.Steps.{Good, transact-line, transact-other, on-column, seat-order, back-good, back-caches, letGo-good, LetGo, Emptied, emptied-good, other-goes}
+use Rattle.rules.proofs.Machines.{column-at, putEach-same, tidy-stateAt}
+use Rattle.rules.proofs.Steps.{Good, transact-line, transact-other, on-column, seat-order, letGo-good, Emptied, emptied-good, other-goes}
 use Rattle.rules.proofs.Accesses.{shared-moved, filled-good, fetched-good}
 use Rattle.rules.proofs.Settling.{settled-clear}
 use Rattle.rules.proofs.Calls.{InStep, line-of, access-on, in-step}
@@ -131,21 +132,32 @@ module _ (z : Sizes) (cell : Protocol) (law : Lawful cell) (n : ℕ) (there : n 
   unfolding fetched
   fetched-displaces j d = displaces-if (holds r n m) (room (getD (m .caches) r []) n) refl refl j d
 
--- what was told of write backs, and the owners, against the beginning
+-- a record is fair to the beginning
+abbrev Fair : System → Record → Type 0
+Fair s e = ByOwner s e × BySupplier s e
+
+-- what was told, and the owners, against the beginning
 record Honest (s : System) (m : Machine) : Type 0 where
-  told : All (ByOwner s) (m .records)
+  told : All (Fair s) (m .records)
   owners : (n i : ℕ) → owned (stateAt (copiesOf n (m .caches)) i) ≡ true → owned (stateOn s n i) ≡ true
 
 -- a transaction that is no write back
-other-told : (s : System) (t : Transaction) (r n : ℕ) (f : Column → Column) (m : Machine) → t ≢ WriteBack → All (ByOwner s) (m .records) → All (ByOwner s) (transact t r n f m .records)
+other-told :
+    (s : System) (t : Transaction) (r n : ℕ) (f : Column → Column) (m : Machine) → t ≢ WriteBack → MovedBy s t n (supplierOf t (copiesOf n (m .caches)))
+    → All (Fair s) (m .records) → All (Fair s) (transact t r n f m .records)
 unfolding transact
-other-told s t r n f m ne h = all-push (ByOwner s) (m .records) (recordOf t r n (column m n) (f (column m n))) h (λ e. absurd (ne e))
+other-told s t r n f m ne by h = all-push (Fair s) (m .records) (recordOf t r n (column m n) (f (column m n))) h ((λ e. absurd (ne e)), by)
+
+-- the supplier of a line whose copies are as they were
+supplier-fair : (s : System) (n : ℕ) (xs : List Copy) → xs ≡ copiesOf n (s .caches) → (t : Transaction) → moves t ≡ true → (o : Option ℕ) → Found 0 xs o → MovedBy s t n (ownerOrMemory o)
+supplier-fair s n xs e t moving None f = (moving, λ i. subst (λ (ys : List Copy). owned (stateAt ys i) ≡ false) e (f i))
+supplier-fair s n xs e t moving (Some k) (i, (p, l, q)) = (moving, subst (λ (ys : List Copy). owned (stateAt ys k) ≡ true) e (subst (λ (j : ℕ). owned (stateAt xs j) ≡ true) (sym (p ∙ zero-add i)) q))
 
 -- a write back by an owner
 back-honest : (s : System) (r n : ℕ) (m : Machine) → owned (stateIn r n m) ≡ true → Honest s m → Honest s (transact WriteBack r n (writeBack r) m)
 unfolding transact writeBack
 back-honest s r n m e h = record {
-  told = all-push (ByOwner s) (m .records) (recordOf WriteBack r n (column m n) (writeBack r (column m n))) (h .told) (λ _. h .owners n r e);
+  told = all-push (Fair s) (m .records) (recordOf WriteBack r n (column m n) (writeBack r (column m n))) (h .told) ((λ _. h .owners n r e), refl);
   owners = λ j i q. h .owners j i (subst (λ (cs : List Cache). owned (stateAt (copiesOf j cs) i) ≡ true) (putEach-same n (m .caches)) q);
 }
 
@@ -179,13 +191,13 @@ module _ (z : Sizes) (truth : List (List ℕ)) (r : ℕ) (on : r < z .seats) (s 
       (cases-eq i r)
 
   -- a copy let go
-  back-if-told : (n : ℕ) (m : Machine) (b : Bool) → owned (stateIn r n m) ≡ b → Honest s m → All (ByOwner s) (writtenBackIf b r n m .records)
+  back-if-told : (n : ℕ) (m : Machine) (b : Bool) → owned (stateIn r n m) ≡ b → Honest s m → All (Fair s) (writtenBackIf b r n m .records)
   back-if-told n m true e h = back-honest s r n m e h .told
   back-if-told n m false e h = h .told
 
-  letGo-told : (n : ℕ) (m : Machine) → Honest s m → All (ByOwner s) (letGo r n m .records)
+  letGo-told : (n : ℕ) (m : Machine) → Honest s m → All (Fair s) (letGo r n m .records)
   unfolding letGo
-  letGo-told n m h = subst (All (ByOwner s)) (sym (change-told n (dropped r) (writtenBackIf (owned (stateIn r n m)) r n m))) (back-if-told n m (owned (stateIn r n m)) refl h)
+  letGo-told n m h = subst (All (Fair s)) (sym (change-told n (dropped r) (writtenBackIf (owned (stateIn r n m)) r n m))) (back-if-told n m (owned (stateIn r n m)) refl h)
 
   letGo-honest : (n : ℕ) → n < z .lines → (m : Machine) → Good z truth m → Honest s m → Honest s (letGo r n m)
   letGo-honest n there m ok h = record {
@@ -203,11 +215,11 @@ module _ (z : Sizes) (truth : List (List ℕ)) (r : ℕ) (on : r < z .seats) (s 
   unfolding emptied
   emptied-honest n m ok h = emptied-if-honest n m ok (room (getD (m .caches) r []) n) refl h
 
-  flushed-if-told : (n : ℕ) (m : Machine) (b : Bool) → Honest s m → All (ByOwner s) (flushedIf b r n m .records)
+  flushed-if-told : (n : ℕ) (m : Machine) (b : Bool) → Honest s m → All (Fair s) (flushedIf b r n m .records)
   flushed-if-told n m true h = letGo-told n m h
   flushed-if-told n m false h = h .told
 
-  flushed-told : (n : ℕ) (m : Machine) → Honest s m → All (ByOwner s) (flushed r n m .records)
+  flushed-told : (n : ℕ) (m : Machine) → Honest s m → All (Fair s) (flushed r n m .records)
   unfolding flushed
   flushed-told n m h = flushed-if-told n m (holds r n m) h
 
@@ -229,10 +241,10 @@ shared-owned cell law c r on i e =
     (cases-eq i r)
 
 module _ (z : Sizes) (cell : Protocol) (law : Lawful cell) (n : ℕ) (there : n < z .lines) (r : ℕ) (on : r < z .seats) (truth : List (List ℕ)) (s : System) where
-  module _ (m : Machine) (ok : Good z truth m) (miss : holds r n m ≡ false) (h : Honest s m) where
+  module _ (m : Machine) (ok : Good z truth m) (miss : holds r n m ≡ false) (begun : copiesOf n (m .caches) ≡ copiesOf n (s .caches)) (h : Honest s m) where
     filled-honest : Honest s (filled cell r n m)
     filled-honest = record {
-      told = other-told s ReadShared r n (readShared cell r) new (λ e. let q : _≡_ {A = ℕ} 0 1 = cc in absurd (omega arith)) (g .told);
+      told = other-told s ReadShared r n (readShared cell r) new (λ e. let q : _≡_ {A = ℕ} 0 1 = cc in absurd (omega arith)) by (g .told);
       owners = λ j i q. ⊎-elim
           (λ p. g .owners j i (subst (λ (k : ℕ). owned (stateAt (copiesOf k (new .caches)) i) ≡ true) (sym p)
           (shared-owned cell law (column new n) r (on-column (e .good) n r on) i
@@ -251,16 +263,19 @@ module _ (z : Sizes) (cell : Protocol) (law : Lawful cell) (n : ℕ) (there : n 
         g : Honest s new
         g = emptied-honest z truth r on s n m ok h
 
+        by : MovedBy s ReadShared n (supplierOf ReadShared (copiesOf n (new .caches)))
+        by = supplier-fair s n (copiesOf n (new .caches)) (e .same ∙ begun) ReadShared refl (ownerOf (copiesOf n (new .caches))) (owner-owns (copiesOf n (new .caches)) (ownerOf (copiesOf n (new .caches))) refl)
+
         line : column (filled cell r n m) n ≡ record { copies = map tidy (readShared cell r (column new n) .copies); home = readShared cell r (column new n) .home }
         line = transact-line z truth new (e .good) n there r on (readShared cell r) true (getD truth n []) (shared-moved z cell law n there r on truth m ok miss new e) (λ _. e .free) (e .good .sound .widths n there) ReadShared
 
-  fetched-if-told : (m : Machine) → Good z truth m → Honest s m → (b : Bool) → holds r n m ≡ b → All (ByOwner s) (fetchedIf b cell r n m .records)
-  fetched-if-told m ok h true e = h .told
-  fetched-if-told m ok h false e = filled-honest m ok e h .told
+  fetched-if-told : (m : Machine) → Good z truth m → copiesOf n (m .caches) ≡ copiesOf n (s .caches) → Honest s m → (b : Bool) → holds r n m ≡ b → All (Fair s) (fetchedIf b cell r n m .records)
+  fetched-if-told m ok begun h true e = h .told
+  fetched-if-told m ok begun h false e = filled-honest m ok e begun h .told
 
-  fetched-told : (m : Machine) → Good z truth m → Honest s m → All (ByOwner s) (fetched cell r n m .records)
+  fetched-told : (m : Machine) → Good z truth m → copiesOf n (m .caches) ≡ copiesOf n (s .caches) → Honest s m → All (Fair s) (fetched cell r n m .records)
   unfolding fetched
-  fetched-told m ok h = fetched-if-told m ok h (holds r n m) refl
+  fetched-told m ok begun h = fetched-if-told m ok begun h (holds r n m) refl
 
   module _ (o v : ℕ) where
     -- the owner in another seat owned the line
@@ -272,57 +287,58 @@ module _ (z : Sizes) (cell : Protocol) (law : Lawful cell) (n : ℕ) (there : n 
         (λ p. ap (λ (x : Copy). owned (x .state)) (sym (getD-set-other (copiesOf n (m .caches)) r i none none p)) ∙ e)
         (cases-eq i r)
 
-    saved-told : (m : Machine) → Good z truth m → Honest s m → (w : Option ℕ) → Found 0 (set (copiesOf n (m .caches)) r none) w → All (ByOwner s) (ownerWritesBack w n m .records)
+    saved-told : (m : Machine) → Good z truth m → Honest s m → (w : Option ℕ) → Found 0 (set (copiesOf n (m .caches)) r none) w → All (Fair s) (ownerWritesBack w n m .records)
     saved-told m ok h None f = h .told
     saved-told m ok h (Some k) (i, (p, l, e)) =
         back-honest s k n m (subst (λ (j : ℕ). owned (stateIn j n m) ≡ true) (sym (p ∙ zero-add i)) (other-owns m ok i e)) h .told
 
-    through-told : (m : Machine) → Good z truth m → Honest s m → All (ByOwner s) (through cell r n o v m .records)
+    through-told : (m : Machine) → Good z truth m → Honest s m → All (Fair s) (through cell r n o v m .records)
     unfolding through savedFrom
     through-told m ok h =
         let w = ownerOf (set (copiesOf n (m .caches)) r none) in
         other-told s ThroughInvalidate r n (throughInvalidate cell r o v) (ownerWritesBack w n m) (λ e. let q : _≡_ {A = ℕ} 0 1 = cc in absurd (omega arith))
-        (saved-told m ok h w (owner-owns (set (copiesOf n (m .caches)) r none) w refl))
+        refl (saved-told m ok h w (owner-owns (set (copiesOf n (m .caches)) r none) w refl))
 
-    sent-told : (m : Machine) → Good z truth m → Honest s m → (t : Option Transaction) → All (ByOwner s) (sentBy cell r n o v t m .records)
+    sent-told : (m : Machine) → Good z truth m → Honest s m → (t : Option Transaction) → All (Fair s) (sentBy cell r n o v t m .records)
     sent-told m ok h None = h .told
     sent-told m ok h (Some ReadShared) = h .told
     sent-told m ok h (Some ReadInvalidate) = h .told
-    sent-told m ok h (Some Invalidate) = other-told s Invalidate r n (invalidate r o v) m (λ e. let q : _≡_ {A = ℕ} 0 1 = cc in absurd (omega arith)) (h .told)
-    sent-told m ok h (Some Update) = other-told s Update r n (update cell r o v) m (λ e. let q : _≡_ {A = ℕ} 0 1 = cc in absurd (omega arith)) (h .told)
-    sent-told m ok h (Some ThroughUpdate) = other-told s ThroughUpdate r n (throughUpdate cell r o v) m (λ e. let q : _≡_ {A = ℕ} 0 1 = cc in absurd (omega arith)) (h .told)
+    sent-told m ok h (Some Invalidate) = other-told s Invalidate r n (invalidate r o v) m (λ e. let q : _≡_ {A = ℕ} 0 1 = cc in absurd (omega arith)) refl (h .told)
+    sent-told m ok h (Some Update) = other-told s Update r n (update cell r o v) m (λ e. let q : _≡_ {A = ℕ} 0 1 = cc in absurd (omega arith)) refl (h .told)
+    sent-told m ok h (Some ThroughUpdate) = other-told s ThroughUpdate r n (throughUpdate cell r o v) m (λ e. let q : _≡_ {A = ℕ} 0 1 = cc in absurd (omega arith)) refl (h .told)
     sent-told m ok h (Some ThroughInvalidate) = through-told m ok h
     sent-told m ok h (Some WriteBack) = h .told
 
-    at-told : (m : Machine) → Good z truth m → Honest s m → (t : State) → All (ByOwner s) (writtenAt cell r n o v t m .records)
+    at-told : (m : Machine) → Good z truth m → Honest s m → (t : State) → All (Fair s) (writtenAt cell r n o v t m .records)
     at-told m ok h Invalid = h .told
     at-told m ok h Shared = sent-told m ok h (digitTransaction (cell r 1))
-    at-told m ok h Exclusive = subst (All (ByOwner s)) (sym (change-told n (silent r o v) m)) (h .told)
+    at-told m ok h Exclusive = subst (All (Fair s)) (sym (change-told n (silent r o v) m)) (h .told)
     at-told m ok h Owned = sent-told m ok h (digitTransaction (cell r 2))
-    at-told m ok h Modified = subst (All (ByOwner s)) (sym (change-told n (silent r o v) m)) (h .told)
+    at-told m ok h Modified = subst (All (Fair s)) (sym (change-told n (silent r o v) m)) (h .told)
 
-    held-told : (m : Machine) → Good z truth m → Honest s m → All (ByOwner s) (writtenHeld cell r n o v m .records)
+    held-told : (m : Machine) → Good z truth m → Honest s m → All (Fair s) (writtenHeld cell r n o v m .records)
     unfolding writtenHeld
     held-told m ok h = at-told m ok h (stateIn r n m)
 
-    missed-told : (m : Machine) → Good z truth m → holds r n m ≡ false → Honest s m → (t : Option Transaction) → All (ByOwner s) (missedBy cell r n o v t m .records)
-    missed-told m ok miss h None = h .told
-    missed-told m ok miss h (Some ReadShared) = held-told (filled cell r n m) (filled-good z cell law n there r on truth m ok miss .0) (filled-honest m ok miss h)
-    missed-told m ok miss h (Some ReadInvalidate) =
-        other-told s ReadInvalidate r n (readInvalidate r o v) (emptied r n m) (λ e. let q : _≡_ {A = ℕ} 0 1 = cc in absurd (omega arith)) (emptied-honest z truth r on s n m ok h .told)
-    missed-told m ok miss h (Some Invalidate) = h .told
-    missed-told m ok miss h (Some Update) = h .told
-    missed-told m ok miss h (Some ThroughUpdate) = h .told
-    missed-told m ok miss h (Some ThroughInvalidate) = through-told m ok h
-    missed-told m ok miss h (Some WriteBack) = h .told
+    missed-told : (m : Machine) → Good z truth m → holds r n m ≡ false → copiesOf n (m .caches) ≡ copiesOf n (s .caches) → Honest s m → (t : Option Transaction) → All (Fair s) (missedBy cell r n o v t m .records)
+    missed-told m ok miss begun h None = h .told
+    missed-told m ok miss begun h (Some ReadShared) = held-told (filled cell r n m) (filled-good z cell law n there r on truth m ok miss .0) (filled-honest m ok miss begun h)
+    missed-told m ok miss begun h (Some ReadInvalidate) =
+        other-told s ReadInvalidate r n (readInvalidate r o v) (emptied r n m) (λ e. let q : _≡_ {A = ℕ} 0 1 = cc in absurd (omega arith)) (supplier-fair s n (copiesOf n (emptied r n m .caches)) (emptied-good z truth n r on m ok .same ∙ begun) ReadInvalidate refl (ownerOf (copiesOf n (emptied r n m .caches))) (owner-owns (copiesOf n (emptied r n m .caches)) (ownerOf (copiesOf n (emptied r n m .caches))) refl))
+        (emptied-honest z truth r on s n m ok h .told)
+    missed-told m ok miss begun h (Some Invalidate) = h .told
+    missed-told m ok miss begun h (Some Update) = h .told
+    missed-told m ok miss begun h (Some ThroughUpdate) = h .told
+    missed-told m ok miss begun h (Some ThroughInvalidate) = through-told m ok h
+    missed-told m ok miss begun h (Some WriteBack) = h .told
 
-    written-if-told : (m : Machine) → Good z truth m → Honest s m → (b : Bool) → holds r n m ≡ b → All (ByOwner s) (writtenIf cell r n o v b m .records)
-    written-if-told m ok h true e = held-told m ok h
-    written-if-told m ok h false e = missed-told m ok e h (digitTransaction (cell r 0))
+    written-if-told : (m : Machine) → Good z truth m → copiesOf n (m .caches) ≡ copiesOf n (s .caches) → Honest s m → (b : Bool) → holds r n m ≡ b → All (Fair s) (writtenIf cell r n o v b m .records)
+    written-if-told m ok begun h true e = held-told m ok h
+    written-if-told m ok begun h false e = missed-told m ok e begun h (digitTransaction (cell r 0))
 
-    written-told : (m : Machine) → Good z truth m → Honest s m → All (ByOwner s) (written cell r n o v m .records)
+    written-told : (m : Machine) → Good z truth m → copiesOf n (m .caches) ≡ copiesOf n (s .caches) → Honest s m → All (Fair s) (written cell r n o v m .records)
     unfolding written
-    written-told m ok h = written-if-told m ok h (holds r n m) refl
+    written-told m ok begun h = written-if-told m ok begun h (holds r n m) refl
 
 -- what a flush writes
 back-wrote : (b : Bool) (r n : ℕ) (m : Machine) → made (writtenBackIf b r n m) ≡ made m + one b
@@ -344,22 +360,28 @@ module _ (z : Sizes) (s : System) (l : Ledger) (k : InStep z s l) where
   begin-honest : Honest s (atWork s)
   begin-honest = record { told = tt; owners = λ n i e. e }
 
-  owners-if : (call : Call) (o : Option Told) → dueIn (z .width) s call ≡ o → All (ByOwner s) (outcomeIf (z .width) o call s .records)
-  owners-if call (Some x) e = tt
-  owners-if (Read seat address places) None e =
+  told-if : (call : Call) (o : Option Told) → dueIn (z .width) s call ≡ o → All (Fair s) (outcomeIf (z .width) o call s .records)
+  told-if call (Some x) e = tt
+  told-if (Read seat address places) None e =
       let on = access-on z s l k 1 seat address places e in
-      fetched-told z (s .cell) (k .lawful) (address / z .width) (line-of z (k .wide) address (on .1)) seat (on .0) (k .truth) s (atWork s) (k .good) begin-honest
-  owners-if (Write seat address value places) None e =
+      fetched-told z (s .cell) (k .lawful) (address / z .width) (line-of z (k .wide) address (on .1)) seat (on .0) (k .truth) s (atWork s) (k .good) refl begin-honest
+  told-if (Write seat address value places) None e =
       let on = access-on z s l k 1 seat address places e in
-      written-told z (s .cell) (k .lawful) (address / z .width) (line-of z (k .wide) address (on .1)) seat (on .0) (k .truth) s (address % z .width) value (atWork s) (k .good) begin-honest
-  owners-if (Flush seat address places) None e =
+      written-told z (s .cell) (k .lawful) (address / z .width) (line-of z (k .wide) address (on .1)) seat (on .0) (k .truth) s (address % z .width) value (atWork s) (k .good) refl begin-honest
+  told-if (Flush seat address places) None e =
       let on = access-on z s l k 1 seat address places e in
       flushed-told z (k .truth) seat (on .0) s (address / z .width) (atWork s) begin-honest
-  owners-if Settle None e = tt
+  told-if Settle None e = tt
+
+  told-fair : (call : Call) → All (Fair s) (outcome (z .width) call s .records)
+  unfolding outcome
+  told-fair call = told-if call (dueIn (z .width) s call) refl
 
   owners-write : (call : Call) → All (ByOwner s) (outcome (z .width) call s .records)
-  unfolding outcome
-  owners-write call = owners-if call (dueIn (z .width) s call) refl
+  owners-write call = all-weaker (Fair s) (ByOwner s) (λ e h. h .0) (outcome (z .width) call s .records) (told-fair call)
+
+  owners-supply : (call : Call) → All (BySupplier s) (outcome (z .width) call s .records)
+  owners-supply call = all-weaker (Fair s) (BySupplier s) (λ e h. h .1) (outcome (z .width) call s .records) (told-fair call)
 
   module _ (seat address places : ℕ) (e : dueIn (z .width) s (Read seat address places) ≡ None) where
     read-on : (seat < z .seats) × (address < addresses z)
@@ -399,6 +421,7 @@ laws-hold = record {
   others = λ z s l since. read-others z s l (in-step since);
   displaces = λ z s l since. read-displaces z s l (in-step since);
   owners = λ z s l since. owners-write z s l (in-step since);
+  suppliers = λ z s l since. owners-supply z s l (in-step since);
   flushes = λ z s l since. flush-writes z s l (in-step since);
   settles = λ z s l since. settle-leaves z s l (in-step since);
 }

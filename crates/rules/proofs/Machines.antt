@@ -1,27 +1,26 @@
 -- The caches of all seats over the memory: installing one line keeps every line coherent, and counts.
 --
 -- Sound   caches and memory of the agreed sizes, every cache in order, every line coherent with its newest words
-use Prim.Native.Nat.{ℕ, zero, suc, _+_, _*_, _<_, _≤_}
+use Prim.Native.Nat.{ℕ, zero, suc, _+_, _<_}
 use native.Mathlib.Omega.{arith}
 use mathlib.Core.Path.{_≡_, refl, sym, _∙_, ap, subst}
-use mathlib.Core.Logic.{_≢_, _⊎_, inl, inr, ⊎-elim}
-use mathlib.Core.Bool.{Bool, true, false, not, _&&_, _||_, cond}
+use mathlib.Core.Logic.{_≢_, ⊎-elim}
+use mathlib.Core.Bool.{Bool, true, false, not, _&&_, cond}
 use mathlib.Core.List.{List, [], _∷_, map}
 use lib.ListN.{length, getD, set}
-use Rattle.std.proofs.shelf.Tests.{cases-eq, cases-bool, and-right, cond-true, cond-false}
-use Rattle.std.proofs.shelf.Lists.{length-set, getD-set-same, getD-set-other, length-map, set-getD}
+use Rattle.std.proofs.shelf.Tests.{cases-eq, cond-true}
+use Rattle.std.proofs.shelf.Lists.{length-set, getD-set-same, getD-set-other, length-map}
 use Rattle.protocol.specs.declared.state.State.{State}
-use Rattle.protocol.specs.declared.state.State.the-variants.{Invalid, Shared, Exclusive, Owned, Modified}
 use Rattle.protocol.specs.States.{valid, owned}
 use Rattle.rules.specs.Columns.{Copy, none, Column, stateAt, wordsAt, one, holders}
-use Rattle.rules.specs.Caches.{Cache, look, room, put, heldIn}
+use Rattle.rules.specs.Caches.{Cache, look, room, put}
 use Rattle.rules.specs.Machines.{copiesOf, putEach, copiesHeld, lostIn, lost}
 use Rattle.rules.specs.Coherence.{Sizes}
 use Rattle.rules.proofs.Tables.{agree, unheld}
 use Rattle.rules.proofs.Seats.{holders-lost, none-gained, holders-set}
 use Rattle.rules.proofs.Lines.{Coherent, Moved}
 use Rattle.rules.proofs.Sets.{tidy}
-use Rattle.rules.proofs.Caches.{Wf, Fit, look-room, put-look, length-put, look-put-same, look-put-other, heldIn-put, wf-put}
+use Rattle.rules.proofs.Caches.{Wf, Fit, look-room, put-look, look-put-same, look-put-other, heldIn-put, wf-put}
 
 -- one line of caches over a memory
 abbrev pub lineIn : List Cache → List (List ℕ) → ℕ → Column

@@ -1,32 +1,29 @@
 -- A run in step with its ledger keeps the promise, at opening and after every call.
-use Prim.Native.Nat.{ℕ, zero, suc, _+_, _*_, _/_, _%_, _<_, _≤_}
+use Prim.Native.Nat.{ℕ, _+_, _/_, _%_, _<_}
 use native.Mathlib.Omega.{arith}
 use mathlib.Core.Path.{_≡_, refl, sym, _∙_, ap, subst}
-use mathlib.Core.Logic.{_≢_, _⊎_, inl, inr, ⊎-elim}
-use mathlib.Core.Bool.{Bool, true, false}
-use mathlib.Core.List.{List, [], _∷_, map}
-use lib.ListN.{length, getD, set}
+use mathlib.Core.Logic.{_≢_, ⊎-elim}
+use mathlib.Core.Bool.{true, false}
+use mathlib.Core.List.{List, [], _∷_}
+use lib.ListN.{length, getD}
 use Rattle.std.specs.declared.option.Option.{Option}
 use Rattle.std.specs.declared.option.Option.the-variants.{Some, None}
 use Rattle.std.proofs.shelf.Tests.{cases-eq, cases-lt, both-ways}
 use Rattle.refusal.specs.Refusals.{Told}
 use Rattle.protocol.specs.States.{valid, exclusive, owned}
-use Rattle.protocol.specs.Cells.{Lawful}
 use Rattle.rules.specs.declared.call.Call.{Call}
-use Rattle.rules.specs.declared.call.Call.the-variants.{Read, Write, Flush, Settle}
+use Rattle.rules.specs.declared.call.Call.the-variants.{Read, Settle}
 use Rattle.rules.specs.declared.tally.Tally.{Tally}
-use Rattle.rules.specs.Columns.{Copy, stateAt, wordsAt}
+use Rattle.rules.specs.Columns.{Copy}
 use Rattle.rules.specs.Caches.{look}
-use Rattle.rules.specs.Transactions.{Protocol}
-use Rattle.rules.specs.Machines.{Machine, column, copiesOf, copiesHeld, holds}
-use Rattle.rules.specs.Accesses.{fetched, settled}
+use Rattle.rules.specs.Machines.{Machine}
+use Rattle.rules.specs.Accesses.{settled}
 use Rattle.rules.specs.Systems.{System, stateOn, opened, atWork, dueIn, wordOf, outcomeIf, outcome, after, closed}
-use Rattle.rules.specs.Ledgers.{Ledger, begun, entered, ledgerAfter}
+use Rattle.rules.specs.Ledgers.{Ledger, begun, ledgerAfter}
 use Rattle.rules.specs.Coherence.{Sizes, addresses, Sized, Since, opening, calling, Equals, Promise, Coherence}
 use Rattle.rules.proofs.Tables.{agree, both-own, lone, owned-valid, exclusive-valid}
-use Rattle.rules.proofs.Lines.{Coherent}
 use Rattle.rules.proofs.Caches.{look-line}
-use Rattle.rules.proofs.Machines.{Sound, column-at}
+use Rattle.rules.proofs.Machines.{column-at}
 use Rattle.rules.proofs.Steps.{Good}
 use Rattle.rules.proofs.Accesses.{fetched-good}
 use Rattle.rules.proofs.Settling.{beyond-clear, settled-good, settled-none, settled-memory}

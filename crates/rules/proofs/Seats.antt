@@ -1,22 +1,22 @@
 -- Lists of copies, seat by seat: what hearing, setting and searching them gives.
-use Prim.Native.Nat.{ℕ, zero, suc, _+_, _<_, _≤_}
-use native.Mathlib.Nat.{add-zero, zero-add, add-suc, suc-add}
+use Prim.Native.Nat.{ℕ, zero, suc, _+_, _<_}
+use native.Mathlib.Nat.{add-zero, add-suc, suc-add}
 use native.Mathlib.Omega.{arith}
 use mathlib.Core.Path.{_≡_, refl, sym, _∙_, ap, subst}
-use mathlib.Core.Logic.{_≢_, _⊎_, inl, inr, ⊎-elim}
-use mathlib.Core.Bool.{Bool, true, false, not, _&&_, _||_, cond}
-use mathlib.Core.List.{List, [], _∷_, map}
+use mathlib.Core.Logic.{_≢_}
+use mathlib.Core.Bool.{Bool, true, false, not, _&&_, cond}
+use mathlib.Core.List.{List, [], _∷_}
 use lib.ListN.{length, getD, set}
 use Rattle.std.specs.declared.option.Option.{Option}
 use Rattle.std.specs.declared.option.Option.the-variants.{Some, None}
-use Rattle.std.proofs.shelf.Tests.{or-parts, or-left, or-right, false≢true, cases-eq, not-true}
-use Rattle.std.proofs.shelf.Lists.{length-set, getD-set-same, getD-set-other}
+use Rattle.std.proofs.shelf.Tests.{or-parts, not-true}
+use Rattle.std.proofs.shelf.Lists.{getD-set-other}
 use Rattle.protocol.specs.declared.state.State.{State}
-use Rattle.protocol.specs.declared.state.State.the-variants.{Invalid, Shared, Exclusive, Owned, Modified}
+use Rattle.protocol.specs.declared.state.State.the-variants.{Invalid}
 use Rattle.protocol.specs.States.{valid, owned}
 use Rattle.rules.specs.Columns.{Copy, kept, none, stateAt, wordsAt, some, alone, ownerFrom, ownerOf, supplied, one, holders}
-use Rattle.rules.specs.Transactions.{hear, leavesO, isO}
-use Rattle.rules.specs.Machines.{lostIn, lost}
+use Rattle.rules.specs.Transactions.{hear}
+use Rattle.rules.specs.Machines.{lostIn}
 
 -- a kept copy that is valid has the words
 pub kept-words : (s : State) (w : List ℕ) → valid s ≡ true → kept s w .words ≡ w

@@ -1,6 +1,6 @@
 -- The nine worked sessions and what each cell decides, by computation.
 use mathlib.Core.Path.{refl}
-use Rattle.rules.specs.Sessions.{Sessions, IllinoisSession, WriteonceSession, BerkeleySession, DragonSession, FireflySession, WritethroughSession, MixedSession, FourSession, AddressSession}
+use Rattle.rules.specs.Sessions.{Sessions}
 use Rattle.rules.specs.Deciding.{Deciding}
 use Rattle.rules.specs.Transactions.{readShared, readInvalidate, invalidate, update, throughUpdate, throughInvalidate, writeBack, silent, dropped}
 use Rattle.rules.specs.Caches.{look, room, victim, put, linesAt}
@@ -16,7 +16,7 @@ sessions = record {
   berkeley = record { supplied = refl; behind = refl };
   dragon = record { updated = refl; behind = refl };
   firefly = record { updated = refl; through = refl };
-  writethrough = record { through = refl; memory = refl };
+  writethrough = record { through = refl; memory = refl; stays = refl };
   mixed = record { saved = refl; memory = refl };
   four = record { four = refl; told = refl };
   addresses = record { last = λ _. refl; beyond = λ _. refl };

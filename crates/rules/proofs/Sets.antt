@@ -10,7 +10,7 @@ use mathlib.Core.Bool.{Bool, true, false, not, _&&_, _||_, cond}
 use mathlib.Core.List.{List, [], _∷_}
 use lib.Dec.{eqb}
 use lib.ListN.{length, replicate}
-use Rattle.std.proofs.shelf.Tests.{eqb-true, eqb-false, eq-eqb, ne-eqb, cases-eq, and-parts, and-left, and-right, or-parts, or-cases, or-right, not-false, not-true, false≢true, both-ways, cases-bool, cond-true, cond-false}
+use Rattle.std.proofs.shelf.Tests.{eqb-true, eqb-false, eq-eqb, ne-eqb, cases-eq, and-parts, and-left, and-right, or-parts, or-right, not-false, false≢true, both-ways, cases-bool}
 use Rattle.protocol.specs.States.{valid}
 use Rattle.protocol.specs.Cells.{among}
 use Rattle.rules.specs.Columns.{Copy, none, one}

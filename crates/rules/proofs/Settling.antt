@@ -2,18 +2,18 @@
 --
 -- Clear      a seat holds no copy of a line
 -- Flushing   the bus stays good, and what was clear stays clear
-use Prim.Native.Nat.{ℕ, zero, suc, _+_, _*_, _%_, _<_, _≤_}
+use Prim.Native.Nat.{ℕ, zero, suc, _%_, _<_, _≤_}
 use native.Mathlib.Nat.{mod-lt}
 use native.Mathlib.Omega.{arith}
 use mathlib.Core.Path.{_≡_, refl, sym, _∙_, ap, subst}
-use mathlib.Core.Logic.{_≢_, _⊎_, inl, inr, ⊎-elim}
-use mathlib.Core.Bool.{Bool, true, false, not, _&&_, _||_, cond}
-use mathlib.Core.List.{List, [], _∷_, map}
+use mathlib.Core.Logic.{⊎-elim}
+use mathlib.Core.Bool.{Bool, true, false, cond}
+use mathlib.Core.List.{List, [], _∷_}
 use lib.Dec.{eqb}
 use lib.ListN.{length, getD, set}
-use Rattle.std.proofs.shelf.Tests.{cases-eq, cases-bool, cases-lt, both-ways, false≢true, eqb-true, eq-eqb, or-cases, or-left, or-right}
+use Rattle.std.proofs.shelf.Tests.{cases-eq, cases-bool, cases-lt, false≢true, eqb-true, eq-eqb, or-cases, or-left, or-right}
 use Rattle.std.proofs.shelf.Lists.{getD-set-same, getD-set-other, getD-past, ext-getD}
-use Rattle.protocol.specs.States.{valid, owned}
+use Rattle.protocol.specs.States.{valid}
 use Rattle.protocol.specs.Cells.{among}
 use Rattle.rules.specs.Columns.{Copy, none, stateAt}
 use Rattle.rules.specs.Caches.{Cache, look, put, linesAt}
@@ -22,7 +22,7 @@ use Rattle.rules.specs.Accesses.{flushed, flushedEach, flushedSet, flushedSets
 use Rattle.rules.specs.Coherence.{Sizes}
 use Rattle.rules.proofs.Tables.{unheld-unowned}
 use Rattle.rules.proofs.Caches.{Wf, look-put-same, look-put-other, look-listed, listed-line, held-zero}
-use Rattle.rules.proofs.Machines.{Sound, InOrder, column-at}
+use Rattle.rules.proofs.Machines.{InOrder, column-at}
 use Rattle.rules.proofs.Steps.{Good, seat-order, flushed-good, flushed-caches}
 
 -- seat k holds no copy of line n

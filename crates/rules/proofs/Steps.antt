@@ -3,35 +3,32 @@
 -- Good     the caches and memory are sound, and the tally balances
 -- LetGo    a seat let a copy go: still sound, and one copy short of balance
 -- Emptied  a seat has room for a line, and the line's copies are as before
-use Prim.Native.Nat.{ℕ, zero, suc, _+_, _*_, _<_, _≤_}
+use Prim.Native.Nat.{ℕ, zero, suc, _+_, _<_}
 use native.Mathlib.Omega.{arith}
 use mathlib.Core.Path.{_≡_, refl, sym, _∙_, ap, subst}
-use mathlib.Core.Logic.{_≢_, _⊎_, inl, inr, ⊎-elim}
-use mathlib.Core.Bool.{Bool, true, false, not, _&&_, _||_, cond}
+use mathlib.Core.Logic.{_≢_}
+use mathlib.Core.Bool.{Bool, true, false, cond}
 use mathlib.Core.List.{List, [], _∷_, map}
 use lib.ListN.{length, getD, set}
-use Rattle.std.proofs.shelf.Tests.{cases-eq, cases-bool, both-ways}
-use Rattle.std.proofs.shelf.Lists.{length-set, getD-set-same, getD-set-other, length-map, set-getD}
-use Rattle.protocol.specs.declared.state.State.{State}
-use Rattle.protocol.specs.declared.state.State.the-variants.{Invalid, Shared, Exclusive, Owned, Modified}
+use Rattle.std.proofs.shelf.Tests.{both-ways}
+use Rattle.std.proofs.shelf.Lists.{getD-set-same, length-map, set-getD}
 use Rattle.protocol.specs.declared.transaction.Transaction.{Transaction}
 use Rattle.protocol.specs.declared.transaction.Transaction.the-variants.{ReadShared, ReadInvalidate, Invalidate, Update, ThroughUpdate, ThroughInvalidate, WriteBack}
 use Rattle.protocol.specs.States.{valid, owned}
-use Rattle.rules.specs.declared.record.Record.{Record}
 use Rattle.rules.specs.declared.tally.Tally.{Tally}
-use Rattle.rules.specs.Columns.{Copy, none, Column, stateAt, wordsAt, one, holders}
+use Rattle.rules.specs.Columns.{Copy, none, Column, stateAt, one, holders}
 use Rattle.rules.specs.Transactions.{writeBack, dropped}
 use Rattle.rules.specs.Caches.{Cache, look, room, victim, put}
-use Rattle.rules.specs.Tallies.{counted, ifReflected, moreInvalidated, tallied, oneDisplaced, oneFlushed}
+use Rattle.rules.specs.Tallies.{counted, ifReflected, moreInvalidated}
 use Rattle.rules.specs.Machines.{Machine, column, copiesOf, putEach, copiesHeld, holds, lost, recordOf, change, transact}
-use Rattle.rules.specs.Accesses.{counting, stateIn, writtenBackIf, letGo, emptiedIf, emptied, flushedIf, flushed}
+use Rattle.rules.specs.Accesses.{stateIn, writtenBackIf, letGo, emptiedIf, emptied, flushedIf, flushed}
 use Rattle.rules.specs.Coherence.{Sizes}
 use Rattle.rules.proofs.Seats.{holders-set}
-use Rattle.rules.proofs.Lines.{Coherent, Moved}
+use Rattle.rules.proofs.Lines.{Moved}
 use Rattle.rules.proofs.Turns.{dropped-moved, writeBack-moved, writeBack-saved}
 use Rattle.rules.proofs.Sets.{tidy}
-use Rattle.rules.proofs.Caches.{Wf, look-room, look-put-same, look-put-other, victim-line, victim-held, victim-room, victim-other}
-use Rattle.rules.proofs.Machines.{lineIn, Sound, column-at, putEach-same, putEach-one, tidy-stateAt, installed-same, installed-other, install-sound, install-held, install-count}
+use Rattle.rules.proofs.Caches.{Wf, look-room, look-put-other, victim-line, victim-held, victim-room, victim-other}
+use Rattle.rules.proofs.Machines.{Sound, column-at, putEach-same, putEach-one, tidy-stateAt, installed-same, installed-other, install-sound, install-held, install-count}
 
 -- every copy filled was displaced, flushed or invalidated, or is held
 abbrev pub Balanced : Tally → ℕ → Type 0

@@ -3,18 +3,18 @@
 -- agree    two seats may stand so at one line
 -- below    a state has no attribute that the other lacks
 use Prim.Native.Nat.{ℕ}
-use mathlib.Core.Path.{_≡_, refl, sym, _∙_, ap, subst}
-use mathlib.Core.Bool.{Bool, true, false, not, _&&_, _||_, cond}
+use mathlib.Core.Path.{_≡_, refl, sym, ap, subst}
+use mathlib.Core.Bool.{Bool, true, false, not, _&&_, _||_}
 use mathlib.Core.List.{List, [], _∷_}
 use lib.Dec.{eqb}
 use lib.Chars.{codes}
 use Rattle.std.proofs.shelf.Tests.{eqb-true, and-parts, or-cases, not-true, false≢true}
-use mathlib.Core.Logic.{_⊎_, inl, inr, ⊎-elim}
+use mathlib.Core.Logic.{⊎-elim}
 use Rattle.protocol.specs.declared.state.State.{State}
 use Rattle.protocol.specs.declared.state.State.the-variants.{Invalid, Shared, Exclusive, Owned, Modified}
 use Rattle.protocol.specs.States.{valid, exclusive, owned, stateOf}
-use Rattle.protocol.specs.Cells.{among, allowed, Lawful}
-use Rattle.rules.specs.Transactions.{Protocol, heardRS, heardUP, heardTU, gone, afterRS, afterUP, afterTU, afterTI, isO}
+use Rattle.protocol.specs.Cells.{among, Lawful}
+use Rattle.rules.specs.Transactions.{Protocol, heardRS, heardUP, heardTU, afterRS, afterUP, afterTU, afterTI, isO}
 
 -- two seats may stand so at one line
 abbrev pub agree : State → State → Bool

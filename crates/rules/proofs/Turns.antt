@@ -1,23 +1,22 @@
 -- Each transaction, each silent write and each drop keeps a line coherent: the one argument, at each of them.
-use Prim.Native.Nat.{ℕ, zero, suc, _+_, _<_, _≤_}
+use Prim.Native.Nat.{ℕ, _<_}
 use native.Mathlib.Nat.{zero-add}
-use native.Mathlib.Omega.{arith}
 use mathlib.Core.Path.{_≡_, refl, sym, _∙_, ap, subst}
 use mathlib.Core.Logic.{_≢_, _⊎_, inl, inr, ⊎-elim}
-use mathlib.Core.Bool.{Bool, true, false, not, _&&_, _||_, cond}
-use mathlib.Core.List.{List, [], _∷_, map}
-use lib.ListN.{length, getD, set}
+use mathlib.Core.Bool.{Bool, true, false, cond}
+use mathlib.Core.List.{List, []}
+use lib.ListN.{length, set}
 use Rattle.std.specs.declared.option.Option.{Option}
 use Rattle.std.specs.declared.option.Option.the-variants.{Some, None}
 use Rattle.std.proofs.shelf.Tests.{cases-eq, cases-bool, false≢true, cond-both, both-ways}
 use Rattle.std.proofs.shelf.Lists.{length-set}
 use Rattle.protocol.specs.declared.state.State.{State}
-use Rattle.protocol.specs.declared.state.State.the-variants.{Invalid, Shared, Exclusive, Owned, Modified}
+use Rattle.protocol.specs.declared.state.State.the-variants.{Invalid, Modified}
 use Rattle.protocol.specs.States.{valid, exclusive, owned}
 use Rattle.protocol.specs.Cells.{Lawful}
 use Rattle.rules.specs.Columns.{Copy, kept, none, Column, stateAt, wordsAt, alone, ownerOf, supplied}
-use Rattle.rules.specs.Transactions.{Protocol, heardRS, heardUP, heardTU, gone, afterRS, afterUP, afterTU, afterTI, hear, same, leavesO, reflects, isO, readShared, readInvalidate, invalidate, update, throughUpdate, throughInvalidate, writeBack, silent, dropped}
-use Rattle.rules.proofs.Tables.{agree, below, below-self, agree-unheld, agree-exclusive, lone, owned-valid, exclusive-valid, unowned-isO, below-RS, agree-RS, valid-RS, below-UP, agree-UP, owned-UP, below-TU, agree-TU, owned-TU, owned-heard-TU, valid-TU, owned-TI, valid-TI}
+use Rattle.rules.specs.Transactions.{Protocol, heardRS, heardUP, heardTU, gone, afterRS, afterUP, afterTU, afterTI, hear, same, leavesO, reflects, readShared, readInvalidate, invalidate, update, throughUpdate, throughInvalidate, writeBack, silent, dropped}
+use Rattle.rules.proofs.Tables.{agree, below-self, agree-unheld, agree-exclusive, lone, owned-valid, exclusive-valid, unowned-isO, below-RS, agree-RS, valid-RS, below-UP, agree-UP, owned-UP, below-TU, agree-TU, owned-TU, owned-heard-TU, valid-TU, owned-TI, valid-TI}
 use Rattle.rules.proofs.Seats.{alone-others, hear-at, supplied-is, Found, owner-owns}
 use Rattle.rules.proofs.Lines.{Coherent, Moved, Turned, by-hearing, by-setting, turn-moved}
 

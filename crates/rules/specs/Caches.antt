@@ -8,12 +8,12 @@
 -- heldIn    how many copies the seat holds
 -- linesAt   the lines that stand in a set, ways upward
 use Prim.Native.Nat.{ℕ, _+_, _%_}
-use mathlib.Core.Bool.{Bool, true, false, not, _&&_, _||_, cond}
+use mathlib.Core.Bool.{Bool, false, not, _&&_, _||_, cond}
 use mathlib.Core.List.{List, [], _∷_}
 use lib.Dec.{eqb}
 use lib.ListN.{length, getD, set, replicate}
 use Rattle.protocol.specs.States.{valid}
-use Rattle.rules.specs.Columns.{Copy, kept, none, one}
+use Rattle.rules.specs.Columns.{Copy, none, one}
 
 -- one way of a set
 pub record Slot : Type 0 where

@@ -7,15 +7,14 @@
 use Prim.Native.Nat.{ℕ, _+_, _*_, _<_}
 use mathlib.Core.Path.{_≡_}
 use mathlib.Core.Logic.{_≢_}
-use mathlib.Core.Bool.{Bool, true, false}
-use mathlib.Core.List.{List, [], _∷_}
+use mathlib.Core.Bool.{true, false}
+use mathlib.Core.List.{List, []}
 use lib.ListN.{length, getD}
-use Rattle.std.specs.declared.option.Option.{Option}
-use Rattle.std.specs.declared.option.Option.the-variants.{Some, None}
+use Rattle.std.specs.declared.option.Option.the-variants.{None}
 use Rattle.protocol.specs.States.{valid, exclusive, owned}
 use Rattle.protocol.specs.Cells.{Lawful}
 use Rattle.rules.specs.declared.call.Call.{Call}
-use Rattle.rules.specs.declared.call.Call.the-variants.{Read, Write, Flush, Settle}
+use Rattle.rules.specs.declared.call.Call.the-variants.{Read, Settle}
 use Rattle.rules.specs.Transactions.{Protocol}
 use Rattle.rules.specs.Machines.{copiesHeld}
 use Rattle.rules.specs.Systems.{System, stateOn, opened, due, dueIn, outcome, wordOf, after, closed}

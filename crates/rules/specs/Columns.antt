@@ -6,14 +6,14 @@
 -- alone     no other seat holds the line; a seat holds it when its copy is valid
 -- ownerOf   the first owner: a copy in Owned or Modified
 -- supplied  the words that the bus gives: the owner's, or else memory's
-use Prim.Native.Nat.{ℕ, zero, suc, _+_}
-use mathlib.Core.Bool.{Bool, true, false, not, _||_, cond}
+use Prim.Native.Nat.{ℕ, suc, _+_}
+use mathlib.Core.Bool.{Bool, false, not, _||_, cond}
 use mathlib.Core.List.{List, [], _∷_}
 use lib.ListN.{getD, set}
 use Rattle.std.specs.declared.option.Option.{Option}
 use Rattle.std.specs.declared.option.Option.the-variants.{Some, None}
 use Rattle.protocol.specs.declared.state.State.{State}
-use Rattle.protocol.specs.declared.state.State.the-variants.{Invalid, Shared, Exclusive, Owned, Modified}
+use Rattle.protocol.specs.declared.state.State.the-variants.{Invalid}
 use Rattle.protocol.specs.States.{valid, owned}
 
 -- what a seat has of a line

@@ -9,7 +9,7 @@ use mathlib.Core.Path.{_≡_}
 use mathlib.Core.List.{List, [], _∷_, map}
 use lib.Chars.{codes}
 use Rattle.rules.specs.declared.call.Call.{Call}
-use Rattle.rules.specs.declared.call.Call.the-variants.{Read, Write, Flush, Settle}
+use Rattle.rules.specs.declared.call.Call.the-variants.{Flush}
 use Rattle.rules.specs.Systems.{outcome, after}
 use Rattle.rules.specs.Sessions.{table, lettersOf, shown, small, r, w}
 

@@ -6,7 +6,7 @@
 -- transact  a bus transaction on one line: the line changes, a record tells of it, the tally counts it
 -- lost      the other seats that held the line before, and do not after
 use Prim.Native.Nat.{ℕ, _+_}
-use mathlib.Core.Bool.{Bool, true, false, not, _&&_}
+use mathlib.Core.Bool.{Bool, false, not, _&&_}
 use mathlib.Core.List.{List, [], _∷_, _++_, map}
 use lib.ListN.{getD, set}
 use Rattle.std.specs.declared.option.Option.{Option}

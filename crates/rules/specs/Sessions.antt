@@ -4,27 +4,28 @@
 -- split     seats below a number follow the first protocol, the others the second
 -- Seen      what is seen of a call: its answer, the line's state in each seat, each transaction with its seat
 -- Sessions  the nine sessions; lines of four words, memory at first all zero
-use Prim.Native.Nat.{ℕ, _+_, _/_}
+use Prim.Native.Nat.{ℕ, _+_}
 use mathlib.Core.Path.{_≡_}
-use mathlib.Core.Bool.{Bool, true, false, cond}
+use mathlib.Core.Bool.{true, false, cond}
 use mathlib.Core.List.{List, [], _∷_, _++_, map}
 use lib.Dec.{ltb}
 use lib.Chars.{codes}
 use lib.ListN.{getD, replicate}
-use Rattle.std.specs.declared.option.Option.{Option}
 use Rattle.std.specs.declared.option.Option.the-variants.{Some, None}
 use Rattle.refusal.specs.Refusals.{plain}
 use Rattle.protocol.specs.declared.transaction.Transaction.the-variants.{ReadShared, ThroughInvalidate, WriteBack}
+use Rattle.protocol.specs.declared.published.Published.{Published}
+use Rattle.protocol.specs.declared.published.Published.the-variants.{WriteThrough, WriteOnce, Illinois, Berkeley, Dragon, Firefly}
+use Rattle.protocol.specs.Published.{publishedCells}
 use Rattle.protocol.specs.States.{letter}
 use Rattle.protocol.specs.Transactions.{mnemonic}
 use Rattle.rules.specs.declared.call.Call.{Call}
 use Rattle.rules.specs.declared.call.Call.the-variants.{Read, Write, Flush, Settle}
 use Rattle.rules.specs.declared.record.Record.{Record}
-use Rattle.rules.specs.declared.record.Supplier.the-variants.{Nobody, Memory, Seat}
-use Rattle.rules.specs.Columns.{Copy}
+use Rattle.rules.specs.declared.record.Supplier.the-variants.{Nobody, Seat}
 use Rattle.rules.specs.Transactions.{Protocol}
 use Rattle.rules.specs.Machines.{copiesOf}
-use Rattle.rules.specs.Systems.{System, Outcome, Closing, opened, outcome, after, closed, due, dueIn}
+use Rattle.rules.specs.Systems.{System, Outcome, opened, outcome, after, closed, due, dueIn}
 
 -- every seat answers from one table
 abbrev pub table : List ℕ → Protocol
@@ -71,28 +72,13 @@ zeros = 0 ∷ 0 ∷ 0 ∷ 0 ∷ []
 abbrev pub small : Protocol → System
 small cell = opened cell 2 1 (zeros ∷ zeros ∷ [])
 
--- protocols by name
-abbrev pub writethrough : Protocol
-writethrough = table (codes "666SMSOSOSSSSIII")
-
-abbrev pub writeonce : Protocol
-writeonce = table (codes "266SMEMEMSSSSIII")
-
-abbrev pub illinois : Protocol
-illinois = table (codes "233EMEMEMSSSSIII")
-
-abbrev pub berkeley : Protocol
-berkeley = table (codes "233SMSOSOSSOOIII")
-
-abbrev pub dragon : Protocol
-dragon = table (codes "144EMEMEMSSOOSSS")
-
-abbrev pub firefly : Protocol
-firefly = table (codes "155EMEMEMSSSSSSS")
+-- every seat follows a published protocol
+abbrev pub follow : Published → Protocol
+follow p = table (publishedCells p)
 
 -- two seats of two sets over four lines of zeros, under illinois
 abbrev pub board : System
-board = opened illinois 2 2 (replicate 4 zeros)
+board = opened (follow Illinois) 2 2 (replicate 4 zeros)
 
 -- its calls
 abbrev pub boardCalls : List Call
@@ -133,43 +119,44 @@ pub record IllinoisSession : Type 0 where
 
 -- a write through ends exclusive; the next write uses no bus and leaves memory behind
 pub record WriteonceSession : Type 0 where
-  pub through : seen 0 (r 0 0 ∷ []) (w 0 0 1) (small writeonce) ≡ record { answer = 1; states = codes "EI"; bus = codes "TI0" ∷ [] }
-  pub written : after 4 (r 0 0 ∷ w 0 0 1 ∷ []) (small writeonce) .memory ≡ (1 ∷ 0 ∷ 0 ∷ 0 ∷ []) ∷ zeros ∷ []
-  pub silent : seen 0 (r 0 0 ∷ w 0 0 1 ∷ []) (w 0 0 2) (small writeonce) ≡ record { answer = 2; states = codes "MI"; bus = [] }
-  pub behind : after 4 (r 0 0 ∷ w 0 0 1 ∷ w 0 0 2 ∷ []) (small writeonce) .memory ≡ (1 ∷ 0 ∷ 0 ∷ 0 ∷ []) ∷ zeros ∷ []
+  pub through : seen 0 (r 0 0 ∷ []) (w 0 0 1) (small (follow WriteOnce)) ≡ record { answer = 1; states = codes "EI"; bus = codes "TI0" ∷ [] }
+  pub written : after 4 (r 0 0 ∷ w 0 0 1 ∷ []) (small (follow WriteOnce)) .memory ≡ (1 ∷ 0 ∷ 0 ∷ 0 ∷ []) ∷ zeros ∷ []
+  pub silent : seen 0 (r 0 0 ∷ w 0 0 1 ∷ []) (w 0 0 2) (small (follow WriteOnce)) ≡ record { answer = 2; states = codes "MI"; bus = [] }
+  pub behind : after 4 (r 0 0 ∷ w 0 0 1 ∷ w 0 0 2 ∷ []) (small (follow WriteOnce)) .memory ≡ (1 ∷ 0 ∷ 0 ∷ 0 ∷ []) ∷ zeros ∷ []
 
 -- an owner supplies and stays the owner; memory is not written
 pub record BerkeleySession : Type 0 where
-  pub supplied : seen 0 (w 0 0 3 ∷ []) (r 1 0) (small berkeley) ≡ record { answer = 3; states = codes "OS"; bus = codes "RS1" ∷ [] }
-  pub behind : after 4 (w 0 0 3 ∷ r 1 0 ∷ []) (small berkeley) .memory ≡ zeros ∷ zeros ∷ []
+  pub supplied : seen 0 (w 0 0 3 ∷ []) (r 1 0) (small (follow Berkeley)) ≡ record { answer = 3; states = codes "OS"; bus = codes "RS1" ∷ [] }
+  pub behind : after 4 (w 0 0 3 ∷ r 1 0 ∷ []) (small (follow Berkeley)) .memory ≡ zeros ∷ zeros ∷ []
 
 -- an update reaches the other copy and not memory
 pub record DragonSession : Type 0 where
-  pub updated : seen 0 (r 0 0 ∷ r 1 0 ∷ []) (w 1 0 4) (small dragon) ≡ record { answer = 4; states = codes "SO"; bus = codes "UP1" ∷ [] }
-  pub behind : after 4 (r 0 0 ∷ r 1 0 ∷ w 1 0 4 ∷ []) (small dragon) .memory ≡ zeros ∷ zeros ∷ []
+  pub updated : seen 0 (r 0 0 ∷ r 1 0 ∷ []) (w 1 0 4) (small (follow Dragon)) ≡ record { answer = 4; states = codes "SO"; bus = codes "UP1" ∷ [] }
+  pub behind : after 4 (r 0 0 ∷ r 1 0 ∷ w 1 0 4 ∷ []) (small (follow Dragon)) .memory ≡ zeros ∷ zeros ∷ []
 
 -- the same accesses: the update goes through to memory
 pub record FireflySession : Type 0 where
-  pub updated : seen 0 (r 0 0 ∷ r 1 0 ∷ []) (w 1 0 4) (small firefly) ≡ record { answer = 4; states = codes "SS"; bus = codes "TU1" ∷ [] }
-  pub through : after 4 (r 0 0 ∷ r 1 0 ∷ w 1 0 4 ∷ []) (small firefly) .memory ≡ (4 ∷ 0 ∷ 0 ∷ 0 ∷ []) ∷ zeros ∷ []
+  pub updated : seen 0 (r 0 0 ∷ r 1 0 ∷ []) (w 1 0 4) (small (follow Firefly)) ≡ record { answer = 4; states = codes "SS"; bus = codes "TU1" ∷ [] }
+  pub through : after 4 (r 0 0 ∷ r 1 0 ∷ w 1 0 4 ∷ []) (small (follow Firefly)) .memory ≡ (4 ∷ 0 ∷ 0 ∷ 0 ∷ []) ∷ zeros ∷ []
 
--- a write at Invalid goes through and leaves no copy
+-- a write at Invalid goes through and leaves no copy, and the other line in its slot stays
 pub record WritethroughSession : Type 0 where
-  pub through : seen 0 [] (w 0 0 9) (small writethrough) ≡ record { answer = 9; states = codes "II"; bus = codes "TI0" ∷ [] }
-  pub memory : after 4 (w 0 0 9 ∷ []) (small writethrough) .memory ≡ (9 ∷ 0 ∷ 0 ∷ 0 ∷ []) ∷ zeros ∷ []
+  pub through : seen 0 [] (w 0 0 9) (small (follow WriteThrough)) ≡ record { answer = 9; states = codes "II"; bus = codes "TI0" ∷ [] }
+  pub memory : after 4 (w 0 0 9 ∷ []) (small (follow WriteThrough)) .memory ≡ (9 ∷ 0 ∷ 0 ∷ 0 ∷ []) ∷ zeros ∷ []
+  pub stays : lettersOf 1 (after 4 (r 0 4 ∷ w 0 0 9 ∷ []) (small (follow WriteThrough))) ≡ codes "SI"
 
 -- an owner in another seat writes back before the write through
 pub record MixedSession : Type 0 where
-  pub saved : seen 0 (w 0 0 1 ∷ []) (w 1 1 2) (small (split berkeley 1 writethrough)) ≡ record { answer = 2; states = codes "II"; bus = codes "WB0" ∷ codes "TI1" ∷ [] }
-  pub memory : after 4 (w 0 0 1 ∷ w 1 1 2 ∷ []) (small (split berkeley 1 writethrough)) .memory ≡ (1 ∷ 2 ∷ 0 ∷ 0 ∷ []) ∷ zeros ∷ []
+  pub saved : seen 0 (w 0 0 1 ∷ []) (w 1 1 2) (small (split (follow Berkeley) 1 (follow WriteThrough))) ≡ record { answer = 2; states = codes "II"; bus = codes "WB0" ∷ codes "TI1" ∷ [] }
+  pub memory : after 4 (w 0 0 1 ∷ w 1 1 2 ∷ []) (small (split (follow Berkeley) 1 (follow WriteThrough))) .memory ≡ (1 ∷ 2 ∷ 0 ∷ 0 ∷ []) ∷ zeros ∷ []
 
 -- the longest access: four transactions
 pub record FourSession : Type 0 where
   pub four :
-      seen 0 (w 0 4 1 ∷ w 0 4 2 ∷ w 1 0 3 ∷ []) (w 0 0 5) (small (split (table (codes "166SMEMEMSSSSIII")) 1 berkeley))
+      seen 0 (w 0 4 1 ∷ w 0 4 2 ∷ w 1 0 3 ∷ []) (w 0 0 5) (small (split (table (codes "166SMEMEMSSSSIII")) 1 (follow Berkeley)))
       ≡ record { answer = 5; states = codes "EI"; bus = codes "WB0" ∷ codes "RS0" ∷ codes "WB1" ∷ codes "TI0" ∷ [] }
   pub told :
-      outcome 4 (w 0 0 5) (after 4 (w 0 4 1 ∷ w 0 4 2 ∷ w 1 0 3 ∷ []) (small (split (table (codes "166SMEMEMSSSSIII")) 1 berkeley))) .records
+      outcome 4 (w 0 0 5) (after 4 (w 0 4 1 ∷ w 0 4 2 ∷ w 1 0 3 ∷ []) (small (split (table (codes "166SMEMEMSSSSIII")) 1 (follow Berkeley)))) .records
       ≡ record { transaction = WriteBack; seat = 0; line = 1; shared = false; reflected = false; supplier = Nobody }
       ∷ record { transaction = ReadShared; seat = 0; line = 0; shared = true; reflected = false; supplier = Seat 1 }
       ∷ record { transaction = WriteBack; seat = 1; line = 0; shared = true; reflected = false; supplier = Nobody }

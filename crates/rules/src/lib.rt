@@ -9,9 +9,21 @@ mod record;
 mod tally;
 
 pub use call::Call;
+pub use call::CallDebug;
+pub use call::CallEq;
+pub use call::CallPartialEq;
 pub use record::Record;
+pub use record::RecordDebug;
+pub use record::RecordEq;
+pub use record::RecordPartialEq;
 pub use record::Supplier;
+pub use record::SupplierDebug;
+pub use record::SupplierEq;
+pub use record::SupplierPartialEq;
 pub use tally::Tally;
+pub use tally::TallyDebug;
+pub use tally::TallyEq;
+pub use tally::TallyPartialEq;
 
 /// The rules give the nine sessions worked out by hand.
 pub fn worked_sessions() -> u8

@@ -1,5 +1,8 @@
 // What the bus tells of one transaction.
 use protocol::Transaction;
+use protocol::TransactionDebug;
+use protocol::TransactionEq;
+use protocol::TransactionPartialEq;
 
 /// Who supplied the line.
 #[derive(Clone, Copy, PartialEq, Eq, Debug)]
@@ -13,7 +16,7 @@ pub enum Supplier {
 }
 
 /// One transaction on the bus.
-#[derive(Clone, Copy)]
+#[derive(Clone, Copy, PartialEq, Eq, Debug)]
 pub struct Record {
     /// The transaction.
     pub transaction: Transaction,

@@ -1,0 +1,8 @@
+mod Clearing
+mod Filling
+mod Keeping
+mod Answering
+mod Beginning
+mod Ending
+mod Replaying
+mod Wholes

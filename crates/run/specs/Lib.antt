@@ -1,0 +1,6 @@
+pub mod Views
+pub mod Histories
+pub mod Calls
+pub mod Openings
+pub mod Closings
+pub mod Replayed
