@@ -3,3 +3,6 @@ pub mod Faults
 pub mod Lines
 pub mod Reading
 pub mod Runs
+pub mod Setups
+pub mod Texts
+pub mod Written

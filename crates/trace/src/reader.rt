@@ -14,3 +14,6 @@ pub struct Reader<'a> {
 mod accesses;
 mod buses;
 mod parts;
+mod texts;
+
+pub use texts::LONGEST;

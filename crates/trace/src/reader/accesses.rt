@@ -2,6 +2,7 @@
 ghost use mathlib.Core.Path.{_≡_};
 ghost use Rattle.trace.specs.Reading.{Reads, Comes};
 ghost use Rattle.trace.specs.Lines.{targetAt, readLineAt, writeLineAt, flushLineAt, settleLineAt, accessAt};
+ghost use Rattle.trace.specs.Written.{Faithful, written, Sound};
 use crate::access::Access;
 use crate::fault::LineFault;
 use crate::reader::Reader;
@@ -40,7 +41,11 @@ impl Reader<'_> {
         self.byte(b' ')?;
         let value = self.number()?;
         self.byte(b'\n')?;
-        Ok(Access::Write { seat, address, value })
+        Ok(Access::Write {
+            seat,
+            address,
+            value,
+        })
     }
 
     // `f SEAT ADDR`
@@ -81,6 +86,7 @@ impl Reader<'_> {
     /// Reads an access line.
     pub fn access(&mut self) -> Result<Access, LineFault>
         ensures reads { λ r. ⌜ Reads (accessAt (now (now (self .entry) .text)) (now (self .entry) .at)) (now (self .entry) .at) r (now (self .exit) .at) ⌝ }
+        ensures faithful { λ r. ⌜ Faithful written Sound (λ x _. x) (now (now (self .entry) .text)) (now (self .entry) .at) r (now (self .exit) .at) ⌝ }
         ensures text { λ _. ⌜ now (now (self .exit) .text) ≡ now (now (self .entry) .text) ⌝ }
     {
         let mut ahead = *self;

@@ -2,6 +2,7 @@
 ghost use mathlib.Core.Path.{_≡_};
 ghost use Rattle.trace.specs.Reading.{Reads, Comes};
 ghost use Rattle.trace.specs.Lines.{busWordAt, numeralAt, spacedWordAt, lastAt, secondAt, tailAt, busAt};
+ghost use Rattle.trace.specs.Written.{Faithful, writtenBus, SoundBus, busLineOf};
 use crate::bus_line::BusLine;
 use crate::bus_line::Numeral;
 use crate::bus_line::Second;
@@ -95,6 +96,7 @@ impl Reader<'_> {
     /// Reads a bus line.
     pub fn bus_line(&mut self) -> Result<BusLine, LineFault>
         ensures reads { λ r. ⌜ Reads (busAt (now (now (self .entry) .text)) (now (self .entry) .at)) (now (self .entry) .at) r (now (self .exit) .at) ⌝ }
+        ensures faithful { λ r. ⌜ Faithful writtenBus SoundBus busLineOf (now (now (self .entry) .text)) (now (self .entry) .at) r (now (self .exit) .at) ⌝ }
         ensures text { λ _. ⌜ now (now (self .exit) .text) ≡ now (now (self .entry) .text) ⌝ }
     {
         let mut ahead = *self;
