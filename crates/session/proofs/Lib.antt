@@ -1,0 +1,5 @@
+pub mod Playing
+pub mod Owing
+pub mod Looking
+pub mod Zeros
+pub mod Making

@@ -1,0 +1,11 @@
+use Prim.Native.Nat.{_*_}
+use mathlib.Core.Path.{_≡_, _∙_, ap}
+use lib.ListN.{replicate}
+use borrow.Author.Needs.{needs}
+use Rattle.std.specs.Of.Vec.{vec-items}
+use Rattle.memory.specs.Words.{linesOf}
+use Rattle.session.proofs.Zeros.{zero-lines}
+use Rattle.session.proofs.memory_words.zero_memory.Needs as need
+
+pub returns : need.returns
+returns c = ?
