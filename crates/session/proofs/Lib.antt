@@ -3,3 +3,5 @@ pub mod Owing
 pub mod Looking
 pub mod Zeros
 pub mod Making
+pub mod Performing
+pub mod Texting

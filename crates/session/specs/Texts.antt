@@ -22,7 +22,7 @@ use Rattle.rules.specs.declared.call.Call.{Call}
 use Rattle.rules.specs.Transactions.{Protocol}
 use Rattle.rules.specs.Systems.{System, Closing, opened, closed}
 use Rattle.rules.specs.Ledgers.{Ledger, begun, entered, ledgerAfter}
-use Rattle.rules.specs.Coherence.{Sizes, addresses, Equals}
+use Rattle.rules.specs.Coherence.{Sizes, addresses, Since, Equals}
 use Rattle.run.specs.Views.{sizes}
 use Rattle.run.specs.Closings.{Balanced}
 use Rattle.trace.specs.declared.access.Access.{Access}
@@ -84,13 +84,15 @@ divided first (Some d) = λ seat k. cond (ltb seat (d .below)) (getD (choiceCell
 abbrev pub setupCells : Setup → Protocol
 setupCells s = divided (s .first) (s .division)
 
--- the accesses of a text from byte i on, performed from a system on, and closed
-pub record Played (t : List ℕ) (i : ℕ) (s : System) (r : Ran) : Type 0 where
+-- the accesses of a text from byte i on, performed on a run just opened, and closed
+pub record Played (t : List ℕ) (i seats sets : ℕ) (cell : Protocol) (memory : List (List ℕ)) (r : Ran) : Type 0 where
   pub stop : Option Stop
   pub last : System
-  pub plays : Plays t i s (map performed (vec-items (r .steps))) stop last
+  pub plays : Plays t i (opened cell seats sets memory) (map performed (vec-items (r .steps))) stop last
   pub halts : mapped halted (r .stop) ≡ mapped (haltAt t) stop
   pub closes : closingOf r ≡ closed last
+  -- the ledger of memory's words begins beside the run
+  pub since : Since (sizes seats sets (length memory)) (opened cell seats sets memory) (begun 4 memory)
 
 -- the calls of accesses performed
 abbrev pub callsOf : List Performed → List Call

@@ -10,14 +10,16 @@ ghost use Rattle.run.specs.Views.{systemOf};
 ghost use Rattle.trace.specs.Faults.{traceStop};
 ghost use Rattle.account.specs.Accounts.{performed};
 ghost use Rattle.session.specs.Plays.{History, Plays};
-ghost use Rattle.session.specs.Steps.{Next};
+ghost use Rattle.session.specs.Steps.{MadeNext, Next};
 use crate::perform::perform;
+use crate::turn::Turn;
 use account::Step;
 use memory::Plain;
 use memory::PlainMemory;
 use protocol::Protocol;
 use run::Run;
 use std::alloc::AllocError;
+use trace::Access;
 use trace::Reader;
 use trace::TraceFault;
 
@@ -33,26 +35,37 @@ pub(crate) fn perform_all<P: Protocol>(
 {
     loop {
         match next_step(run, &mut reader) {
-            Ok(Some(step)) => steps.push(step)?,
-            Ok(None) => return Ok(None),
-            Err(fault) => return Ok(Some(fault)),
+            Turn::Performed(step) => steps.push(step)?,
+            Turn::Ended => return Ok(None),
+            Turn::Stopped(fault) => return Ok(Some(fault)),
         }
     }
 }
 
 // Reads the next access line and performs it, if the text does not end here.
-fn next_step<P: Protocol>(run: &mut Run<P, Plain>, reader: &mut Reader) -> Result<Option<Step>, TraceFault>
+fn next_step<P: Protocol>(run: &mut Run<P, Plain>, reader: &mut Reader) -> Turn
     requires { ⌜ History (systemOf cells plainLines (now run)) ⌝ }
     ensures next { λ r. ⌜ Next (now (now (reader .entry) .text)) (now (reader .entry) .at) (systemOf cells plainLines (now (run .entry))) r (now (reader .exit) .at) (systemOf cells plainLines (now (run .exit))) ⌝ }
     ensures history { λ _. ⌜ History (systemOf cells plainLines (now (run .exit))) ⌝ }
     ensures text { λ _. ⌜ now (now (reader .exit) .text) ≡ now (now (reader .entry) .text) ⌝ }
 {
     let byte = reader.at();
-    match reader.next_access()? {
-        None => Ok(None),
-        Some(access) => match perform(run, access) {
-            Ok(step) => Ok(Some(step)),
-            Err(refusal) => Err(TraceFault::Refused { byte, refusal }),
-        },
+    match reader.next_access() {
+        Ok(next) => perform_next(run, next, byte),
+        Err(fault) => Turn::Stopped(fault),
+    }
+}
+
+// Performs the access of the line that begins at a byte, if the text does not end there.
+fn perform_next<P: Protocol>(run: &mut Run<P, Plain>, next: Option<Access>, byte: usize) -> Turn
+    requires { ⌜ History (systemOf cells plainLines (now run)) ⌝ }
+    ensures { λ r. ⌜ MadeNext next byte (systemOf cells plainLines (now (run .entry))) (systemOf cells plainLines (now (run .exit))) r ⌝ }
+{
+    let Some(access) = next else {
+        return Turn::Ended;
+    };
+    match perform(run, access) {
+        Ok(step) => Turn::Performed(step),
+        Err(refusal) => Turn::Stopped(TraceFault::Refused { byte, refusal }),
     }
 }

@@ -4,5 +4,6 @@ mod memory_words;
 mod perform;
 mod states;
 mod text;
+mod turn;
 
 pub use text::play;

@@ -4,7 +4,6 @@ ghost use mathlib.Core.Path.{_≡_};
 ghost use Rattle.std.specs.Options.{mapped};
 ghost use Rattle.std.specs.Vec.{made};
 ghost use Rattle.memory.specs.Words.{plainLines};
-ghost use Rattle.rules.specs.Systems.{opened};
 ghost use Rattle.trace.specs.Faults.{traceStop};
 ghost use Rattle.account.specs.Accounts.{halted, outcomeOf};
 ghost use Rattle.session.specs.Texts.{haltAt, zeros, setupCells, Played, Accounted};
@@ -63,7 +62,7 @@ fn stop_if(text: &[u8], fault: Option<TraceFault>) -> Option<Stop>
 // The accesses of a text whose bus line gave this setup.
 fn play_setup(heap: Global, text: &[u8], reader: Reader, setup: Setup) -> Result<Ran, AllocError>
     requires { ⌜ now (reader .text) ≡ now text ⌝ }
-    ensures { λ r. ⌜ made r (λ ran. Played (now (text .entry)) (reader .entry .at) (opened (setupCells setup) (setup .agreed .seats) (setup .agreed .sets) (zeros (setup .lines))) ran) ⌝ }
+    ensures { λ r. ⌜ made r (λ ran. Played (now (text .entry)) (reader .entry .at) (setup .agreed .seats) (setup .agreed .sets) (setupCells setup) (zeros (setup .lines)) ran) ⌝ }
 {
     let memory = zero_memory(heap, setup.lines)?;
     match setup.division {
@@ -89,7 +88,7 @@ fn play_on<P: Protocol + Drop>(
     memory: Plain,
 ) -> Result<Ran, AllocError>
     requires { ⌜ now (reader .text) ≡ now text ⌝ }
-    ensures { λ r. ⌜ made r (λ ran. Played (now (text .entry)) (reader .entry .at) (opened (cells protocol) (agreed .seats) (agreed .sets) (plainLines memory)) ran) ⌝ }
+    ensures { λ r. ⌜ made r (λ ran. Played (now (text .entry)) (reader .entry .at) (agreed .seats) (agreed .sets) (cells protocol) (plainLines memory) ran) ⌝ }
 {
     let mut steps = Vec::new(heap);
     let (mut run, ticket) = Run::open(agreed, protocol, memory);

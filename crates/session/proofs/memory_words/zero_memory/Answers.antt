@@ -8,4 +8,6 @@ use Rattle.session.proofs.Zeros.{zero-lines}
 use Rattle.session.proofs.memory_words.zero_memory.Needs as need
 
 pub returns : need.returns
-returns c = ?
+returns c =
+    let e : vec-items (c .in-Continue-words .words) ≡ replicate (c .args .lines * 4) 0 = c .in-Continue-words .ensures tt .exact (search needs) in
+    c .new .ensures .lines ∙ (ap linesOf e ∙ zero-lines (c .args .lines) (c .pre))
