@@ -39,9 +39,9 @@ lines-go xs i out before after words h e p q =
     ap (λ l. l ++ memoryLines (i + 1) (drop (i + 1) xs)) (q ∙ ap (λ w. before ++ memoryLineIf i w) e)
     ∙ (append-assoc before (memoryLineIf i (getD xs i [])) (memoryLines (i + 1) (drop (i + 1) xs))
     ∙ (ap (λ l. before ++ l) (sym step) ∙ p))
-    where
-      step : memoryLines i (drop i xs) ≡ memoryLineIf i (getD xs i []) ++ memoryLines (i + 1) (drop (i + 1) xs)
-      step = rw (add-one, drop-cons xs i [])
+  where
+    step : memoryLines i (drop i xs) ≡ memoryLineIf i (getD xs i []) ++ memoryLines (i + 1) (drop (i + 1) xs)
+    step = rw (add-one, drop-cons xs i [])
 
 -- no line is left
 pub lines-end : (xs : List (List ℕ)) (i : ℕ) (out after : List ℕ) → length xs ≤ i → after ++ memoryLines i (drop i xs) ≡ out → after ≡ out

@@ -60,7 +60,13 @@ fn write_accesses(out: &mut String, tally: Tally) -> fmt::Result
 fn write_fills(out: &mut String, tally: Tally) -> fmt::Result
     ensures { λ r. ⌜ made r (λ _. string-bytes (now (out .exit)) ≡ string-bytes (now (out .entry)) ++ fillCounts tally) ⌝ }
 {
-    let Tally { rs, rx, inv, up, .. } = tally;
+    let Tally {
+        rs,
+        rx,
+        inv,
+        up,
+        ..
+    } = tally;
     write!(out, " rs {rs} rx {rx} in {inv} up {up}")
 }
 

@@ -32,7 +32,7 @@ outcome-is call s o e = ap (λ (d : Option Told). outcomeIf 4 d call s) e
 -- a run afterwards, by its parts
 same-system : {cell cell′ : Protocol} {caches : List Cache} {memory : List (List ℕ)} {tally : Tally} {n n′ : ℕ} → cell ≡ cell′ → n ≡ n′
     → _≡_ {A = System} (record { cell = cell; caches = caches; memory = memory; tally = tally; answered = n })
-      (record { cell = cell′; caches = caches; memory = memory; tally = tally; answered = n′ })
+    (record { cell = cell′; caches = caches; memory = memory; tally = tally; answered = n′ })
 same-system p q = cc
 
 same-reply : {v v′ n n′ : ℕ} → v ≡ v′ → n ≡ n′ → _≡_ {A = Reply} (record { value = v; records = n }) (record { value = v′; records = n′ })

@@ -76,9 +76,9 @@ module _ {P M A : Type 0} (cells : P → ℕ → ℕ → ℕ) (lines : M → Lis
   remade call p q e h asked is =
       let s = systemOf cells lines before in
       let d : dueIn 4 s (placed call q) ≡ dueIn 4 s asked = due-alike s p q e call ∙ ap (dueIn 4 s) (sym is) in
-      let o : outcome 4 (placed call q) s ≡ outcome 4 asked s = outcome-alike s p q e call ∙ ap (λ (x : Call). outcome 4 x s) (sym is) in
-      ( subst (λ (x : Option Told). Answers x (replyOf (outcome 4 asked s)) r) d (subst (λ (y : Outcome). Answers (dueIn 4 s (placed call q)) (replyOf y) r) o (h .replies))
-      , h .system ∙ ap (λ (y : Outcome). y .system) o
+      let o : outcome 4 (placed call q) s ≡ outcome 4 asked s = outcome-alike s p q e call ∙ ap (λ (x : Call). outcome 4 x s) (sym is) in (
+        subst (λ (x : Option Told). Answers x (replyOf (outcome 4 asked s)) r) d (subst (λ (y : Outcome). Answers (dueIn 4 s (placed call q)) (replyOf y) r) o (h .replies)),
+        h .system ∙ ap (λ (y : Outcome). y .system) o,
       )
 
 -- after k calls of the steps given, from a run at the start

@@ -97,12 +97,13 @@ module _ (a : Access) (before after : System) (given left : List Record) (reply 
   pub made-by : (states : List State) → states ≡ statesOf a after → (step : Step)
       → performed step ≡ record { access = a; answer = reply .value; states = states; records = take (reply .records) left } → Made a before after (Ok step)
   made-by states e step p = record {
-    answers =
-    (m .replies .0,
-    p
-    ∙ (ap (λ (n : ℕ). record { access = a; answer = n; states = states; records = take (reply .records) left }) (ap (λ (r : Reply). r .value) (m .replies .1))
-    ∙ (ap (λ (l : List State). record { access = a; answer = outcome 4 (callOf a) before .answer; states = l; records = take (reply .records) left }) (e ∙ ap (λ (s : System). statesOf a s) (m .system))
-    ∙ ap (λ (l : List Record). record { access = a; answer = outcome 4 (callOf a) before .answer; states = statesOf a (outcome 4 (callOf a) before .system); records = l }) records-are)));
+    answers = (
+      m .replies .0,
+      p
+          ∙ (ap (λ (n : ℕ). record { access = a; answer = n; states = states; records = take (reply .records) left }) (ap (λ (r : Reply). r .value) (m .replies .1))
+          ∙ (ap (λ (l : List State). record { access = a; answer = outcome 4 (callOf a) before .answer; states = l; records = take (reply .records) left }) (e ∙ ap (λ (s : System). statesOf a s) (m .system))
+          ∙ ap (λ (l : List Record). record { access = a; answer = outcome 4 (callOf a) before .answer; states = statesOf a (outcome 4 (callOf a) before .system); records = l }) records-are)),
+    );
     system = m .system;
   }
 
@@ -127,8 +128,8 @@ module _ (t : List ℕ) (i : ℕ) (before after : System) where
       let l = g .place in
       record {
         leads = λ ps stop last v.
-        subst (λ (x : Performed). Plays t i before (x ∷ ps) stop last) (sym (m .answers .1))
-        (performs a j h r (m .answers .0) (subst (λ (s : System). Plays t j s ps stop last) (m .system) v));
+            subst (λ (x : Performed). Plays t i before (x ∷ ps) stop last) (sym (m .answers .1))
+            (performs a j h r (m .answers .0) (subst (λ (s : System). Plays t j s ps stop last) (m .system) v));
         further = omega arith;
         within = omega arith;
       }
@@ -157,10 +158,10 @@ pub went-on :
 went-on t t₀ i i₀ j before after begin step items more e l m f ps stop last p =
     let q = subst (λ (x : List ℕ). Plays x i before (performed step ∷ ps) stop last) e (l .leads ps stop last (subst (λ (x : List ℕ). Plays x j after ps stop last) (sym e) p)) in
     subst (λ (x : List Performed). Plays t₀ i₀ begin x stop last) (sym (ap (λ (x : List Step). map performed x ++ ps) m ∙ spread items)) (f (performed step ∷ ps) stop last q)
-    where
-      spread : (xs : List Step) → map performed (xs ++ (step ∷ [])) ++ ps ≡ map performed xs ++ (performed step ∷ ps)
-      spread [] = refl
-      spread (x ∷ xs) = ap (λ (ys : List Performed). performed x ∷ ys) (spread xs)
+  where
+    spread : (xs : List Step) → map performed (xs ++ (step ∷ [])) ++ ps ≡ map performed xs ++ (performed step ∷ ps)
+    spread [] = refl
+    spread (x ∷ xs) = ap (λ (ys : List Performed). performed x ∷ ys) (spread xs)
 
 -- an answered access, by the case of it that was matched
 pub made-in :

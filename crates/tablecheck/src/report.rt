@@ -39,7 +39,10 @@ fn print_cell(rt: &impl Print, number: u8, cell: Cell, byte: u8) -> io::Result<(
         Some(transaction) => {
             let mnemonic = transaction.mnemonic();
             let name = transaction.name();
-            println!(rt, "  {number:>4}  {purpose:<26}  {shown}  {mnemonic}, {name}")
+            println!(
+                rt,
+                "  {number:>4}  {purpose:<26}  {shown}  {mnemonic}, {name}"
+            )
         }
         None => {
             let name = state_name(byte);
@@ -63,9 +66,15 @@ fn print_refusal(rt: &impl Print, refusal: Refusal, bytes: &[u8]) -> io::Result<
         Refusal::CellOutside { cell } => print_outside(rt, cell, bytes),
         Refusal::TableLength => {
             let length = bytes.len();
-            println!(rt, "  refused {number}: a table has 16 bytes, this one has {length}")
+            println!(
+                rt,
+                "  refused {number}: a table has 16 bytes, this one has {length}"
+            )
         }
-        _ => println!(rt, "  refused {number}: no published protocol has this name"),
+        _ => println!(
+            rt,
+            "  refused {number}: no published protocol has this name"
+        ),
     }
 }
 
@@ -77,6 +86,11 @@ fn print_outside(rt: &impl Print, number: u8, bytes: &[u8]) -> io::Result<()> {
     let purpose = cell.purpose();
     let set = cell.set();
     let at = number as usize;
-    let found = Word { bytes: bytes.get(at..at + 1).unwrap_or(bytes) };
-    println!(rt, "  refused 4, cell {number} ({purpose}): {found} is none of {set}")
+    let found = Word {
+        bytes: bytes.get(at..at + 1).unwrap_or(bytes),
+    };
+    println!(
+        rt,
+        "  refused 4, cell {number} ({purpose}): {found} is none of {set}"
+    )
 }

@@ -14,7 +14,12 @@ use rules::Record;
 
 impl<P: Protocol, M: Memory> Run<P, M> {
     /// A seat reads the word at an address. Refused with 5, 6, 7 or 8.
-    pub fn read(&mut self, seat: u32, address: u32, records: &mut [Record]) -> Result<Reply, Refusal>
+    pub fn read(
+        &mut self,
+        seat: u32,
+        address: u32,
+        records: &mut [Record],
+    ) -> Result<Reply, Refusal>
         ensures { λ r. ⌜ Called cells lines aside (Read seat address (length (now (records .entry)))) (now (self .entry)) (now (self .exit)) (now (records .entry)) (now (records .exit)) r ⌝ }
     {
         self.check(seat, address, records.len())?;
@@ -50,7 +55,12 @@ impl<P: Protocol, M: Memory> Run<P, M> {
     }
 
     /// A seat drops its copy of the line that an address lies in. Refused with 5, 6, 7 or 8.
-    pub fn flush(&mut self, seat: u32, address: u32, records: &mut [Record]) -> Result<Reply, Refusal>
+    pub fn flush(
+        &mut self,
+        seat: u32,
+        address: u32,
+        records: &mut [Record],
+    ) -> Result<Reply, Refusal>
         ensures { λ r. ⌜ Called cells lines aside (Flush seat address (length (now (records .entry)))) (now (self .entry)) (now (self .exit)) (now (records .entry)) (now (records .exit)) r ⌝ }
     {
         self.check(seat, address, records.len())?;

@@ -33,12 +33,27 @@ impl<P: Protocol, M: Memory> Run<P, M> {
         };
         let mut scratch = [blank; PLACES_NEEDED];
         match call {
-            Call::Read { seat, address, places } =>
-                self.read(seat, address, &mut scratch[0..places.min(PLACES_NEEDED)]),
-            Call::Write { seat, address, value, places } =>
-                self.write(seat, address, value, &mut scratch[0..places.min(PLACES_NEEDED)]),
-            Call::Flush { seat, address, places } =>
-                self.flush(seat, address, &mut scratch[0..places.min(PLACES_NEEDED)]),
+            Call::Read {
+                seat,
+                address,
+                places,
+            } => self.read(seat, address, &mut scratch[0..places.min(PLACES_NEEDED)]),
+            Call::Write {
+                seat,
+                address,
+                value,
+                places,
+            } => self.write(
+                seat,
+                address,
+                value,
+                &mut scratch[0..places.min(PLACES_NEEDED)],
+            ),
+            Call::Flush {
+                seat,
+                address,
+                places,
+            } => self.flush(seat, address, &mut scratch[0..places.min(PLACES_NEEDED)]),
             Call::Settle => self.settle(),
         }
     }

@@ -14,8 +14,8 @@ pub loop-line-again : need.loop-line-again
 loop-line-again c =
     let h : c .loop-line .line < length (plainLines (c .args .memory .now)) = search needs in
     elim (c .match-read-line .came) [
-      in-Ok·in-Continue-write-line-if w ↦
-      lines-go (plainLines (c .args .memory .now)) (c .loop-line .line) (string-bytes (c .args .out .now) ++ memoryLines 0 (plainLines (c .args .memory .now))) (string-bytes (c .loop-line .out)) (string-bytes (c .match-read-line .out)) (w .in-Ok .words) h (w .in-Ok .ensures tt .1) (c .loop-line .inv) (ap string-bytes (w .out-is) ∙ w .in-Continue-write-line-if .ensures tt)
+      | in-Ok·in-Continue-write-line-if w ↦
+          lines-go (plainLines (c .args .memory .now)) (c .loop-line .line) (string-bytes (c .args .out .now) ++ memoryLines 0 (plainLines (c .args .memory .now))) (string-bytes (c .loop-line .out)) (string-bytes (c .match-read-line .out)) (w .in-Ok .words) h (w .in-Ok .ensures tt .1) (c .loop-line .inv) (ap string-bytes (w .out-is) ∙ w .in-Continue-write-line-if .ensures tt)
       | in-Err w ↦ below-read (plainLines (c .args .memory .now)) (c .loop-line .line) _ h (w .in-Err .ensures tt)
     ]
 

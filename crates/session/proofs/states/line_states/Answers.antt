@@ -13,11 +13,12 @@ use Rattle.session.proofs.Looking.{states-are}
 use Rattle.session.proofs.states.line_states.Needs as need
 
 pub loop-seat-again : need.loop-seat-again
-loop-seat-again g c =
-    (simp length-set (c .loop-seat .inv .0),
-    below-more _ _
-    (λ k h. let ne : k ≢ c .loop-seat .seat = omega arith in rw getD-set-other (c .loop-seat .inv .1 k h))
-    (let lt : c .loop-seat .seat < length (c .loop-seat .states) = omega arith in rw getD-set-same (c .state-in .ensures)))
+loop-seat-again g c = (
+  simp length-set (c .loop-seat .inv .0),
+  below-more _ _
+      (λ k h. let ne : k ≢ c .loop-seat .seat = omega arith in rw getD-set-other (c .loop-seat .inv .1 k h))
+      (let lt : c .loop-seat .seat < length (c .loop-seat .states) = omega arith in rw getD-set-same (c .state-in .ensures)),
+)
 
 pub returns : need.returns
 returns g c =

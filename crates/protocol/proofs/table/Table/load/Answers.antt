@@ -26,9 +26,9 @@ returns-in-Some c = record {
 }
 
 pub returns-in-None : need.returns-in-None
-returns-in-None c = record
-  { answer = (refusal-none (c .args .bytes .now) (c .in-None .ensures tt), c .copy-from-slice .ensures .after)
-  ; accepted = λ e. c .in-None .ensures tt
-  ; lawful = λ k. refl
-  ; refused = tt
-  }
+returns-in-None c = record {
+  answer = (refusal-none (c .args .bytes .now) (c .in-None .ensures tt), c .copy-from-slice .ensures .after);
+  accepted = λ e. c .in-None .ensures tt;
+  lawful = λ k. refl;
+  refused = tt;
+}

@@ -14,6 +14,6 @@ returns g c =
     let z = sizes (c .args .agreed .seats) (c .args .agreed .sets) (length (g .M·Memory .lines (c .args .memory))) in
     let e = as-opened (g .P·Protocol .cells (c .args .protocol)) (c .args .agreed) (g .M·Memory .lines (c .args .memory)) (c .new .result) (c .new .ensures .caches) in
     let since = subst (λ (s : System). Since z s (begun 4 (g .M·Memory .lines (c .args .memory)))) (sym e)
-        (begins (g .P·Protocol .cells (c .args .protocol)) (g .P·Protocol·met .lawful (c .args .protocol)) (c .args .agreed) (g .M·Memory .lines (c .args .memory)) (g .M·Memory·met .lawful (c .args .memory) .shaped))
+    (begins (g .P·Protocol .cells (c .args .protocol)) (g .P·Protocol·met .lawful (c .args .protocol)) (c .args .agreed) (g .M·Memory .lines (c .args .memory)) (g .M·Memory·met .lawful (c .args .memory) .shaped))
     in
     record { system = e; under = refl; over = refl; since = since; promise = since-promised z _ _ since }
