@@ -5,3 +5,4 @@ pub mod Zeros
 pub mod Making
 pub mod Performing
 pub mod Texting
+pub mod Existing

@@ -118,6 +118,14 @@ some-byte (Write seat address value) = omega arith
 some-byte (Flush seat address) = omega arith
 some-byte Settle = omega arith
 
+-- behind an access line the text is further
+pub line-further : (t : List ℕ) (i : ℕ) (a : Access) (j : ℕ) → accessAt t i ≡ Ok (a, j) → i < j
+line-further t i a j r =
+    let g = access-grammar .passes t i (drop i t) a j refl r in
+    let n = some-byte (g .form) in
+    let l = g .place in
+    omega arith
+
 module _ (t : List ℕ) (i : ℕ) (before after : System) where
   pub led : (a : Access) (j : ℕ) (step : Step) → i < length t → accessAt t i ≡ Ok (a, j) → Made a before after (Ok step) → Led t i before step j after
   led a j step h r m =

@@ -5,6 +5,7 @@
 -- cellsBy    the protocol of each seat: that of P, or from seat B on that of Q
 -- begunBy    the run that a bus line opens: every copy Invalid, memory all zero
 -- Gives      the outcome of a text
+-- OneOutcome every text gives just one outcome
 -- Played     the accesses of a text, performed and closed by the code
 -- Accounted  the outcome of a text, that it is the only one, and what it owes the ledger
 use Prim.Native.Nat.{ℕ, _+_, _*_}
@@ -75,6 +76,10 @@ pub data Gives (t : List ℕ) : Outcome → Type 0 where
       (line : BusLine) (i : ℕ) → openStop t 0 ≡ None → busAt t 0 ≡ Ok (line, i)
       → (ps : List Performed) (stop : Option Stop) (last : System) → Plays t i (begunBy t line) ps stop last
       → Gives t (ran ps (mapped (haltAt t) stop) (closed last))
+
+-- every text gives one outcome, and only one
+abbrev pub OneOutcome : Type 0
+OneOutcome = (t : List ℕ) → (o : Outcome) × Gives t o × ((p : Outcome) → Gives t p → p ≡ o)
 
 -- the protocol of a setup: the first choice's cells, or from the division's seat on the second's
 abbrev pub divided : Choice → Option Division → Protocol
