@@ -3,11 +3,10 @@
 mod limit;
 #[cfg(test)]
 mod mixed;
+mod places;
 #[cfg(test)]
 mod sizes;
 #[cfg(test)]
 mod tests;
-
-mod places;
 
 pub use places::record_places;
