@@ -4,5 +4,7 @@ mod memory_lines;
 mod step;
 mod stop;
 mod text;
+mod whole;
 
 pub use text::report;
+pub use whole::report_text;

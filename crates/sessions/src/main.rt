@@ -1,6 +1,5 @@
 // sessions: for each name on standard input, runs the text in NAME.in and compares its report with NAME.out.
-use report::report;
-use session::play;
+use report::report_text;
 use std::alloc::AllocError;
 use std::alloc::Global;
 use std::fs;
@@ -28,7 +27,6 @@ fn print_case(rt: &LibcRuntime, name: &str) -> io::Result<()> {
 
 // Whether the report of a text is this one.
 fn reports(heap: Global, text: &[u8], expected: &[u8]) -> Result<bool, AllocError> {
-    let account = play(heap, text)?;
-    let shown = report(heap, &account)?;
+    let shown = report_text(heap, text)?;
     Ok(shown.as_bytes() == expected)
 }
