@@ -20,7 +20,7 @@ pub trait Protocol {
 
 /// The state in which a seat takes a line that no other seat holds: by the law Shared or Exclusive.
 pub fn filled_alone<P: Protocol>(protocol: &P, seat: usize) -> State
-    ensures value { result ≡ state_of (cells protocol.now seat 3) }
+    ensures value { result ≡ state_of (P.cells protocol.now seat 3) }
     ensures lawful { FilledState result }
 {
     match protocol.cell(seat, 3) {

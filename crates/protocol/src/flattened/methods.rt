@@ -10,7 +10,7 @@ use crate::interface::Protocol;
 impl Flattened {
     /// Writes a protocol out: the table answers what the protocol does, for each seat that a bus can have.
     pub fn of<P: Protocol>(protocol: &P) -> Flattened
-        ensures { Alike (rows_answer result.rows) (cells protocol.now) }
+        ensures { Alike (rows_answer result.rows) (P.cells protocol.now) }
     {
         let mut rows = [[0; 16]; 8];
         for seat in 0..8 {
@@ -22,7 +22,7 @@ impl Flattened {
 
 // A seat's cells.
 fn row<P: Protocol>(protocol: &P, seat: usize) -> [u8; 16]
-    ensures { (k : ℕ) → k < 16 → slice_index result k ≡ cells protocol.now seat k }
+    ensures { (k : ℕ) → k < 16 → slice_index result k ≡ P.cells protocol.now seat k }
 {
     let mut cells = [0; 16];
     for cell in 0..Cell::COUNT {

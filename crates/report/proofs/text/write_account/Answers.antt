@@ -7,6 +7,6 @@ use Rattle.report.proofs.text.write_account.Goals as goal
 pub returns-in-Ran : goal.returns-in-Ran
 returns-in-Ran c =
     subst
-    (λ (a : Account). IfOk c.write-ran.result (λ _. string_bytes c.write-ran.new.out ≡ string_bytes c.args.out.now ++ printed (outcome_of a)))
+    (λ (a : Account). IfOk c.write_ran.result (λ _. string_bytes c.write_ran.new.out ≡ string_bytes c.args.out.now ++ printed (outcome_of a)))
     (sym c.in-Ran.is)
-    c.write-ran.ensures
+    c.write_ran.ensures

@@ -6,10 +6,10 @@ use Rattle.session.proofs.accesses.next_step.Goals as goal
 
 pub returns-in-Ok : goal.returns-in-Ok
 returns-in-Ok g c = record {
-  next = next_of c.args.reader.now.text.now c.args.reader.now.at (system_of g.P.Protocol.cells plain_lines c.args.run.now) (system_of g.P.Protocol.cells plain_lines c.perform-next.new.run)
-      c.next-access.new.self.at c.at-byte.result c.in-Ok.next c.perform-next.result c.at-byte.ensures c.in-Ok.ensures.reads c.perform-next.ensures;
-  history = history-of c.args.reader.now.text.now c.args.reader.now.at (system_of g.P.Protocol.cells plain_lines c.args.run.now) (system_of g.P.Protocol.cells plain_lines c.perform-next.new.run)
-      c.next-access.new.self.at c.at-byte.result c.in-Ok.next c.perform-next.result c.perform-next.ensures c.requires;
+  next = next_of c.args.reader.now.text.now c.args.reader.now.at (system_of g.P.Protocol.cells plain_lines c.args.run.now) (system_of g.P.Protocol.cells plain_lines c.perform_next.new.run)
+      c.next_access.new.self.at c.at-byte.result c.in-Ok.next c.perform_next.result c.at-byte.ensures c.in-Ok.ensures.reads c.perform_next.ensures;
+  history = history-of c.args.reader.now.text.now c.args.reader.now.at (system_of g.P.Protocol.cells plain_lines c.args.run.now) (system_of g.P.Protocol.cells plain_lines c.perform_next.new.run)
+      c.next_access.new.self.at c.at-byte.result c.in-Ok.next c.perform_next.result c.perform_next.ensures c.requires;
   text = c.in-Ok.ensures.text;
 }
 

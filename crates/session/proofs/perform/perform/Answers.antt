@@ -17,7 +17,7 @@ pub returns-in-Read : goal.returns-in-Read
 returns-in-Read g c =
     made_in c.args.access (Read c.in-Read.seat c.in-Read.address) (system_of g.P.Protocol.cells plain_lines c.args.run.now) (system_of g.P.Protocol.cells plain_lines c.make.new.run)
     _ c.make.new.records c.in-ok-reply.reply c.in-ok-reply.ensures c.in-Read.is
-    (states_on (c.in-Read.address / 4) (system_of g.P.Protocol.cells plain_lines c.make.new.run)) refl c.on-line.result c.on-line.ensures
+    (states_on (c.in-Read.address / 4) (system_of g.P.Protocol.cells plain_lines c.make.new.run)) refl c.on_line.result c.on_line.ensures
 
 pub on-line-requires-in-Write : goal.on-line-requires-in-Write
 on-line-requires-in-Write g c =

@@ -12,7 +12,7 @@ loop-seat-preserved g c = (
   simp length-set c.loop-seat.invariant.0,
   below_more _ _
       (λ k h. let ne : k ≢ c.loop-seat.seat = omega arith in rw get_or-set_other (c.loop-seat.invariant.1 k h))
-      (let lt : c.loop-seat.seat < length c.loop-seat.states = omega arith in rw get_or-set_same c.state-in.ensures),
+      (let lt : c.loop-seat.seat < length c.loop-seat.states = omega arith in rw get_or-set_same c.state_in.ensures),
 )
 
 pub returns : goal.returns

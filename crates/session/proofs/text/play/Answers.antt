@@ -8,5 +8,5 @@ returns-in-ok-play-setup c =
 
 pub returns-in-Err : goal.returns-in-Err
 returns-in-Err c =
-    stopped-from c.args.text.now c.over-reader.result.text.now c.over-reader.result.at c.in-Err.fault c.stop-at.result
-    c.over-reader.ensures.0 c.over-reader.ensures.1 c.in-Err.ensures.settled c.stop-at.ensures
+    stopped-from c.args.text.now c.over-reader.result.text.now c.over-reader.result.at c.in-Err.fault c.stop_at.result
+    c.over-reader.ensures.0 c.over-reader.ensures.1 c.in-Err.ensures.settled c.stop_at.ensures

@@ -13,6 +13,6 @@ returns g c =
     let line = c.args.line in
     let cells = g.P.Protocol.cells in
     let m = machine_of lines (take c.args.made c.args.records.now) b in
-    renamed lines aside (onward lines aside c.fill-made.ensures.reaches c.write-held.ensures)
+    renamed lines aside (onward lines aside c.fill-made.ensures.reaches c.write_held.ensures)
     (ap (λ (p : g.row.P.Denot). written_held_lem (cells p) seat line c.args.word c.args.value (filled (cells b.protocol) seat line m)) c.fill-made.ensures.reaches.stays.protocol)
     (omega arith) (omega arith)

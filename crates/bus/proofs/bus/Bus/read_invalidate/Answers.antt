@@ -47,15 +47,15 @@ returns g c =
     record {
       machine =
           transact-is cs ls b.tally line (read_invalidate seat word value) ReadInvalidate seat
-          e (caches_of c.place.new.self) ls c.count-transaction.new.tally
+          e (caches_of c.place.new.self) ls c.count_transaction.new.tally
           (own-after b.caches line seat c.requires.on (λ k. gone) same cs₁ c.react-heeded.ensures.caches (caches_of c.place.new.self) x
           (c.place.ensures.caches ∙ ap (λ (v : List ℕ). put_each line cs₁ (set (copies_of line cs₁) seat (kept Modified (set v word value)))) words))
           (home_stays ls line)
           (ap (λ (s : Bool). event s c.supplier.result) (told-shared seat xs ys w a told x)
           ∙ ap (event (not (alone seat (set ys seat x)))) (c.supplier.ensures ∙ ap owner_or_memory (told-owner line seat cs ys c.requires.absent w a told)))
-          (c.count-transaction.ensures.value ∙ ap (λ (n : ℕ). tallied e n b.tally) (told-lost seat xs ys w a told x));
+          (c.count_transaction.ensures.value ∙ ap (λ (n : ℕ). tallied e n b.tally) (told-lost seat xs ys w a told x));
       stays = record {
-        grown = omega (arith, c.count-transaction.ensures.most, told.few);
+        grown = omega (arith, c.count_transaction.ensures.most, told.few);
         protocol = refl;
         apart = refl;
         count = refl;

@@ -58,7 +58,7 @@ returns g c =
       obeys = record {
         machine =
             transact-is cs ls b.tally line (read_shared cell seat) ReadShared seat
-            e (caches_of c.place.new.self) (lines c.reflect.new.memory) c.count-transaction.new.tally
+            e (caches_of c.place.new.self) (lines c.reflect.new.memory) c.count_transaction.new.tally
             (own-after b.caches line seat c.requires.on (λ k. heard_rs (cell k)) same cs₁ c.react-heeded.ensures.caches (caches_of c.place.new.self) x
             (c.place.ensures.caches ∙ ap (λ (y : Copy). put_each line cs₁ (set (copies_of line cs₁) seat y)) own))
             (c.reflect.ensures.lines ∙ reflected-home ls line a.reflected c.supply-words.result
@@ -67,9 +67,9 @@ returns g c =
             (ap (λ (s : Bool). event s a.reflected c.supplier.result) (told-shared seat xs ys w a told x)
             ∙ ap (λ (f : Bool). event (not (alone seat zs)) f c.supplier.result) reflected
             ∙ ap (event (not (alone seat zs)) (reflects xs zs)) (c.supplier.ensures ∙ ap owner_or_memory (told-owner line seat cs ys c.requires.absent w a told)))
-            (c.count-transaction.ensures.value ∙ ap (λ (n : ℕ). tallied e n b.tally) (told-lost seat xs ys w a told x));
+            (c.count_transaction.ensures.value ∙ ap (λ (n : ℕ). tallied e n b.tally) (told-lost seat xs ys w a told x));
         stays = record {
-          grown = omega (arith, c.count-transaction.ensures.most, told.few);
+          grown = omega (arith, c.count_transaction.ensures.most, told.few);
           protocol = refl;
           apart = c.reflect.ensures.aside;
           count =

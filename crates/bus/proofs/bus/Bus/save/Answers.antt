@@ -16,8 +16,8 @@ returns-then-is-owned g c =
     let own : owned (state_at (copies_of line (caches_of b.caches)) seat) ≡ true = search rules in
     record {
       obeys =
-          named g.M.Memory.lines g.M.Memory.aside c.write-back.ensures.obeys
+          named g.M.Memory.lines g.M.Memory.aside c.write_back.ensures.obeys
           (λ es. ap (λ (x : Bool). written_back_if x seat line (machine_of g.M.Memory.lines es b)) (sym own))
           refl (omega arith);
-      caches = c.write-back.ensures.caches;
+      caches = c.write_back.ensures.caches;
     }

@@ -18,7 +18,7 @@ write-back-requires g c =
 pub returns-in-Some : goal.returns-in-Some
 returns-in-Some g c =
     let lines = g.M.Memory.lines in
-    named lines g.M.Memory.aside c.write-back.ensures.obeys
+    named lines g.M.Memory.aside c.write_back.ensures.obeys
     (λ es. sym (saved_from-owner c.args.seat c.args.line (machine_of lines es c.args.self.now) (Some c.in-Some.owner) (sym c.in-Some.ensures)))
     refl (omega arith)
 

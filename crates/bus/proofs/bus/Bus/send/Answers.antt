@@ -15,7 +15,7 @@ returns-then-is-valid g c =
     let b = c.args.self.now in
     let m = machine_of lines (take 0 c.args.records.now) b in
     let held : valid (state_at (copies_of c.args.line (caches_of b.caches)) c.args.seat) ≡ true = search rules in
-    renamed lines g.M.Memory.aside c.write-held.ensures
+    renamed lines g.M.Memory.aside c.write_held.ensures
     (sym (written_held_lem (g.P.Protocol.cells b.protocol) c.args.seat c.args.line c.args.word c.args.value m held))
     (omega arith) (omega arith)
 
@@ -26,6 +26,6 @@ returns g c =
     let m = machine_of lines (take 0 c.args.records.now) b in
     let cells = g.P.Protocol.cells b.protocol in
     let absent : valid (state_at (copies_of c.args.line (caches_of b.caches)) c.args.seat) ≡ false = search rules in
-    renamed lines g.M.Memory.aside c.write-missed.ensures
+    renamed lines g.M.Memory.aside c.write_missed.ensures
     (sym (written-missed cells c.args.seat c.args.line c.args.word c.args.value m (digit_transaction (cells c.args.seat 0)) absent refl))
     (omega arith) (omega arith)

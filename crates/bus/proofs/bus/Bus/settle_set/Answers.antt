@@ -12,13 +12,13 @@ returns-in-Some g c =
     record {
       settles = record {
         told = listed c.flush-line-event.result;
-        wrote = c.lines-written.ensures;
+        wrote = c.lines_written.ensures;
         obeys =
             named lines g.M.Memory.aside c.flush-line-event.ensures
             (λ es. sym (flushed_set-lines c.args.seat c.args.at (machine_of lines es b) (c.in-Some.line ∷ []) (sym c.in-Some.ensures)))
             refl (omega arith);
       };
-      few = omega (arith, c.lines-written.ensures, listed-few c.flush-line-event.result);
+      few = omega (arith, c.lines_written.ensures, listed-few c.flush-line-event.result);
     }
 
 pub returns-in-None : goal.returns-in-None

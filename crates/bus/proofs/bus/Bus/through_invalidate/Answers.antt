@@ -36,19 +36,19 @@ returns g c =
     record {
       machine =
           transact-is cs ls b.tally line (through_invalidate cell seat word value) ThroughInvalidate seat
-          (event a.shared) (caches_of c.keep-through.new.caches) (lines c.write-word.new.self) c.count-transaction.new.tally
-          (own-after b.caches line seat c.requires.on (λ k. gone) same cs₁ c.react-heeded.ensures.caches (caches_of c.keep-through.new.caches) x
-          (c.keep-through.ensures.caches
+          (event a.shared) (caches_of c.keep_through.new.caches) (lines c.write_word.new.self) c.count_transaction.new.tally
+          (own-after b.caches line seat c.requires.on (λ k. gone) same cs₁ c.react-heeded.ensures.caches (caches_of c.keep_through.new.caches) x
+          (c.keep_through.ensures.caches
           ∙ ap (λ (y : Copy). put_each line cs₁ (set (copies_of line cs₁) seat (kept (after_ti (cell seat) y.state) (set y.words word value)))) mine))
-          c.write-word.ensures.lines
+          c.write_word.ensures.lines
           (ap event (told-shared seat xs ys w a told x))
-          (c.count-transaction.ensures.value ∙ ap (λ (n : ℕ). tallied (event a.shared) n b.tally) (told-lost seat xs ys w a told x));
+          (c.count_transaction.ensures.value ∙ ap (λ (n : ℕ). tallied (event a.shared) n b.tally) (told-lost seat xs ys w a told x));
       stays = record {
-        grown = omega (arith, c.count-transaction.ensures.most, told.few);
+        grown = omega (arith, c.count_transaction.ensures.most, told.few);
         protocol = refl;
-        apart = c.write-word.ensures.aside;
-        count = ap length c.write-word.ensures.lines ∙ length-set ls line (set (get_or ls line []) word value);
-        seats = c.keep-through.ensures.seats ∙ c.react-heeded.ensures.seats;
-        sets = c.keep-through.ensures.sets ∙ c.react-heeded.ensures.sets;
+        apart = c.write_word.ensures.aside;
+        count = ap length c.write_word.ensures.lines ∙ length-set ls line (set (get_or ls line []) word value);
+        seats = c.keep_through.ensures.seats ∙ c.react-heeded.ensures.seats;
+        sets = c.keep_through.ensures.sets ∙ c.react-heeded.ensures.sets;
       };
     }

@@ -54,19 +54,19 @@ returns g c =
     record {
       machine =
           transact-is cs ls b.tally line (through_update cell seat word value) ThroughUpdate seat
-          (event a.shared) (caches_of c.write.new.self) (lines c.write-word.new.self) c.count-transaction.new.tally
+          (event a.shared) (caches_of c.write.new.self) (lines c.write_word.new.self) c.count_transaction.new.tally
           (own-after b.caches line seat c.requires.on (λ k. heard_tu (cell k)) (λ v. set v c.args.word c.args.value) cs₁ c.react-heeded.ensures.caches (caches_of c.write.new.self) x
           (c.write.ensures.caches
           ∙ ap (λ (s : State). put_each line cs₁ (set (copies_of line cs₁) seat (kept s (set (words_at (copies_of line cs₁) seat) word value)))) state
           ∙ ap (λ (y : Copy). put_each line cs₁ (set (copies_of line cs₁) seat (kept (after_tu (cell seat) (alone seat ys) (state_at xs seat)) (set y.words word value)))) mine))
-          c.write-word.ensures.lines
+          c.write_word.ensures.lines
           (ap event (told-shared seat xs ys w a told x))
-          (c.count-transaction.ensures.value ∙ ap (λ (n : ℕ). tallied (event a.shared) n b.tally) (told-lost seat xs ys w a told x));
+          (c.count_transaction.ensures.value ∙ ap (λ (n : ℕ). tallied (event a.shared) n b.tally) (told-lost seat xs ys w a told x));
       stays = record {
-        grown = omega (arith, c.count-transaction.ensures.most, told.few);
+        grown = omega (arith, c.count_transaction.ensures.most, told.few);
         protocol = refl;
-        apart = c.write-word.ensures.aside;
-        count = ap length c.write-word.ensures.lines ∙ length-set ls line (set (get_or ls line []) word value);
+        apart = c.write_word.ensures.aside;
+        count = ap length c.write_word.ensures.lines ∙ length-set ls line (set (get_or ls line []) word value);
         seats = c.write.ensures.seats ∙ c.react-heeded.ensures.seats;
         sets = c.write.ensures.sets ∙ c.react-heeded.ensures.sets;
       };

@@ -54,16 +54,16 @@ returns g c =
     record {
       machine =
           transact-is cs ls b.tally line (update cell seat word value) Update seat
-          (event a.shared) (caches_of c.write.new.self) ls c.count-transaction.new.tally
+          (event a.shared) (caches_of c.write.new.self) ls c.count_transaction.new.tally
           (own-after b.caches line seat c.requires.on (λ k. heard_up (cell k)) (λ v. set v c.args.word c.args.value) cs₁ c.react-heeded.ensures.caches (caches_of c.write.new.self) x
           (c.write.ensures.caches
           ∙ ap (λ (s : State). put_each line cs₁ (set (copies_of line cs₁) seat (kept s (set (words_at (copies_of line cs₁) seat) word value)))) state
           ∙ ap (λ (y : Copy). put_each line cs₁ (set (copies_of line cs₁) seat (kept (after_up (cell seat) (alone seat ys)) (set y.words word value)))) mine))
           (home_stays ls line)
           (ap event (told-shared seat xs ys w a told x))
-          (c.count-transaction.ensures.value ∙ ap (λ (n : ℕ). tallied (event a.shared) n b.tally) (told-lost seat xs ys w a told x));
+          (c.count_transaction.ensures.value ∙ ap (λ (n : ℕ). tallied (event a.shared) n b.tally) (told-lost seat xs ys w a told x));
       stays = record {
-        grown = omega (arith, c.count-transaction.ensures.most, told.few);
+        grown = omega (arith, c.count_transaction.ensures.most, told.few);
         protocol = refl;
         apart = refl;
         count = refl;

@@ -24,16 +24,16 @@ returns g c =
       obeys = record {
         machine =
             transact-is cs (lines b.memory) b.tally line (write_back seat) WriteBack seat
-            (event c.shared.result) cs (lines c.write-line.new.self) c.count-transaction.new.tally
+            (event c.shared.result) cs (lines c.write_line.new.self) c.count_transaction.new.tally
             (sym (put_each-same line cs))
-            (c.write-line.ensures.lines ∙ ap (set (lines b.memory) line) c.words-words.ensures)
+            (c.write_line.ensures.lines ∙ ap (set (lines b.memory) line) c.words-words.ensures)
             (ap event c.shared.ensures)
-            (c.count-transaction.ensures.value ∙ ap (λ n. tallied (event c.shared.result) n b.tally) (sym (lost-self seat (copies_of line cs))));
+            (c.count_transaction.ensures.value ∙ ap (λ n. tallied (event c.shared.result) n b.tally) (sym (lost-self seat (copies_of line cs))));
         stays = record {
-          grown = omega (arith, c.count-transaction.ensures.most);
+          grown = omega (arith, c.count_transaction.ensures.most);
           protocol = refl;
-          apart = c.write-line.ensures.aside;
-          count = ap length c.write-line.ensures.lines ∙ length-set (lines b.memory) line c.words-words.result;
+          apart = c.write_line.ensures.aside;
+          count = ap length c.write_line.ensures.lines ∙ length-set (lines b.memory) line c.words-words.result;
           seats = refl;
           sets = refl;
         };

@@ -25,7 +25,7 @@ returns-in-None g c =
     let state = state_at (copies_of line (caches_of b.caches)) seat in
     let told = c.in-None.ensures in
     let choice : chosen (cells seat) state ≡ None = cc in
-    renamed lines aside (unlogged lines aside c.args.made c.args.records.now c.write-silently.ensures)
+    renamed lines aside (unlogged lines aside c.args.made c.args.records.now c.write_silently.ensures)
     (sym (sent-none cells law seat line word value m state c.requires.held choice) ∙ sym (written_held-at cells seat line word value m state refl))
     (omega arith) (omega arith)
 
@@ -101,7 +101,7 @@ returns-in-Some-ThroughInvalidate g c =
     let state = state_at (copies_of line (caches_of b.caches)) seat in
     let told = c.in-Some-ThroughInvalidate.ensures in
     let choice : chosen (cells seat) state ≡ Some ThroughInvalidate = cc in
-    renamed lines aside c.write-through.ensures
+    renamed lines aside c.write_through.ensures
     (sym (sent-by cells law seat line word value m state ThroughInvalidate c.requires.held choice) ∙ sym (written_held-at cells seat line word value m state refl))
     (omega arith) (omega arith)
 

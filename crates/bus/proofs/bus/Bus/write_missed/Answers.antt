@@ -16,7 +16,7 @@ returns-in-Some-ReadShared g c =
     let m = machine_of lines (take c.args.made c.args.records.now) b in
     let told = c.in-Some-ReadShared.ensures in
     let choice : digit_transaction (cells c.args.seat 0) ≡ Some ReadShared = cc in
-    renamed lines aside c.fill-then-write.ensures
+    renamed lines aside c.fill_then_write.ensures
     (ap (λ (t : Option Transaction). missed_by cells c.args.seat c.args.line c.args.word c.args.value t m) (sym choice))
     (omega arith) (omega arith)
 
@@ -29,7 +29,7 @@ returns-in-Some-ReadInvalidate g c =
     let m = machine_of lines (take c.args.made c.args.records.now) b in
     let told = c.in-Some-ReadInvalidate.ensures in
     let choice : digit_transaction (cells c.args.seat 0) ≡ Some ReadInvalidate = cc in
-    renamed lines aside c.fill-written.ensures
+    renamed lines aside c.fill_written.ensures
     (ap (λ (t : Option Transaction). missed_by cells c.args.seat c.args.line c.args.word c.args.value t m) (sym choice))
     (omega arith) (omega arith)
 
@@ -42,7 +42,7 @@ returns-in-Some-ThroughInvalidate g c =
     let m = machine_of lines (take c.args.made c.args.records.now) b in
     let told = c.in-Some-ThroughInvalidate.ensures in
     let choice : digit_transaction (cells c.args.seat 0) ≡ Some ThroughInvalidate = cc in
-    renamed lines aside c.write-through.ensures
+    renamed lines aside c.write_through.ensures
     (ap (λ (t : Option Transaction). missed_by cells c.args.seat c.args.line c.args.word c.args.value t m) (sym choice))
     (omega arith) (omega arith)
 

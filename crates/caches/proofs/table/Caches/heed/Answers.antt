@@ -13,8 +13,8 @@ use Rattle.caches.proofs.Finds.{state-at, held-stands, held-look}
 use Rattle.caches.proofs.Moves.{bounds, own_home, held-tag, heeding}
 use Rattle.caches.proofs.table.Caches.heed.Goals as goal
 
-pub invariant-of-self : goal.invariant-of-self
-invariant-of-self g c =
+pub invariant_of-self : goal.invariant_of-self
+invariant_of-self g c =
     let s = c.args.self.now in
     let k = c.args.seat in
     let n = c.args.line in

@@ -8,8 +8,8 @@ use Rattle.caches.proofs.Masks.{listed-some, listed-few}
 use Rattle.caches.proofs.Openings.{open_view, open-wide, open-homed}
 use Rattle.caches.proofs.table.Caches.new.Goals as goal
 
-pub invariant-of-result : goal.invariant-of-result
-invariant-of-result c =
+pub invariant_of-result : goal.invariant_of-result
+invariant_of-result c =
     let a = c.args.agreed in
     let listed : among c.sets.result set_counts ≡ true = subst (λ (m : ℕ). among m set_counts ≡ true) (sym c.sets.ensures) a.listed in (
       subst (λ (m : ℕ). m ≤ 8) (sym c.seats.ensures) a.few,

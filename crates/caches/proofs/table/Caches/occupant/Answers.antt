@@ -14,7 +14,7 @@ returns-then-is-valid c =
     let n = c.args.line in
     let i = c.place-of-at.result in
     let here = c.place-of-at.ensures.place in
-    let v = sym c.is-valid.ensures ∙ c.if-is-valid.true in
+    let v = sym c.is_valid.ensures ∙ c.if-is-valid.true in
     record {
       answer = ap Some (sym (victim-tag s k c.requires n i here))
           ∙ sym (cond-false (room (get_or (caches_of s) k []) n) None (Some (victim (get_or (caches_of s) k []) n)) (room-none s k c.requires n i here c.if-tag-line.true v));
@@ -30,7 +30,7 @@ returns-else-tag-line c =
     let here = c.place-of-at.ensures.place in
     let free : room (get_or (caches_of s) k []) n ≡ true =
     elim c.else-tag-line.branch [
-      | else-tag-line-via-then-tag-line+else-is-valid w ↦ room-empty s k c.requires n i here (sym w.is-valid.ensures ∙ w.if-is-valid.false)
+      | else-tag-line-via-then-tag-line+else-is-valid w ↦ room-empty s k c.requires n i here (sym w.is_valid.ensures ∙ w.if-is-valid.false)
       | else-tag-line-via-else-tag-line w ↦ room-here s k c.requires n i here w.if-tag-line.false
     ]
     in

@@ -18,7 +18,7 @@ returns-then-is-owned c =
     sym
     (c.loop-seat.invariant
     ∙ owner_here s r n k c.loop-seat-test.true
-    (passed s r n k owned c.if-seat-requester.true c.state.result c.state.ensures.value ∙ sym c.is-owned.ensures ∙ c.if-is-owned.true))
+    (passed s r n k owned c.if-seat-requester.true c.state.result c.state.ensures.value ∙ sym c.is_owned.ensures ∙ c.if-is-owned.true))
 
 pub loop-seat-preserved : goal.loop-seat-preserved
 loop-seat-preserved c =
@@ -29,7 +29,7 @@ loop-seat-preserved c =
     let not-owned : owned (state_at (others s r n) k) ≡ false =
     elim c.else-seat-requester.branch [
       | else-seat-requester-via-then-seat-requester+else-is-owned w ↦
-          passed s r n k owned w.if-seat-requester.true w.state.result w.state.ensures.value ∙ sym w.is-owned.ensures ∙ w.if-is-owned.false
+          passed s r n k owned w.if-seat-requester.true w.state.result w.state.ensures.value ∙ sym w.is_owned.ensures ∙ w.if-is-owned.false
       | else-seat-requester-via-else-seat-requester w ↦ skipped s r n k owned refl w.if-seat-requester.false
     ]
     in

@@ -5,8 +5,8 @@ use Rattle.caches.specs.Views.{caches_of}
 use Rattle.caches.proofs.Moves.{bounds, own_home, placed}
 use Rattle.caches.proofs.table.Caches.place.Goals as goal
 
-pub invariant-of-self : goal.invariant-of-self
-invariant-of-self c =
+pub invariant_of-self : goal.invariant_of-self
+invariant_of-self c =
     let s = c.args.self.now in
     let q : CacheLine = record { state = c.args.state; tag = c.args.line; words = c.args.words } in
     let at = c.place-of-at.ensures in

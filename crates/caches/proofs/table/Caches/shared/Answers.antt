@@ -20,7 +20,7 @@ returns-then-is-valid c =
     not-alone r (copies_of n (caches_of s)) true
     (c.loop-other.invariant
     ∙ some-here s r n k c.loop-other-test.true
-    (passed s r n k valid c.if-other-seat.true c.state.result c.state.ensures.value ∙ sym c.is-valid.ensures ∙ c.if-is-valid.true))
+    (passed s r n k valid c.if-other-seat.true c.state.result c.state.ensures.value ∙ sym c.is_valid.ensures ∙ c.if-is-valid.true))
 
 pub loop-other-preserved : goal.loop-other-preserved
 loop-other-preserved c =
@@ -31,7 +31,7 @@ loop-other-preserved c =
     let not-held : valid (state_at (others s r n) k) ≡ false =
     elim c.else-other-seat.branch [
       | else-other-seat-via-then-other-seat+else-is-valid w ↦
-          passed s r n k valid w.if-other-seat.true w.state.result w.state.ensures.value ∙ sym w.is-valid.ensures ∙ w.if-is-valid.false
+          passed s r n k valid w.if-other-seat.true w.state.result w.state.ensures.value ∙ sym w.is_valid.ensures ∙ w.if-is-valid.false
       | else-other-seat-via-else-other-seat w ↦ skipped s r n k valid refl w.if-other-seat.false
     ]
     in

@@ -8,6 +8,6 @@ pub returns-then-not-is-valid : goal.returns-then-not-is-valid
 returns-then-not-is-valid g c =
     let t =
     still c.args.self.now c.args.seat c.args.line (g.P.Protocol.cells c.args.protocol.now c.args.seat) c.args.heard c.args.heeded.now
-    c.requires.on (ap valid (sym c.state.ensures.seat) ∙ sym c.is-valid.ensures ∙ c.if-not-is-valid.true)
+    c.requires.on (ap valid (sym c.state.ensures.seat) ∙ sym c.is_valid.ensures ∙ c.if-not-is-valid.true)
     in
     record { caches = t.caches; noted = t.noted; seats = refl; sets = refl }

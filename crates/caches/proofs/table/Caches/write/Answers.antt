@@ -4,8 +4,8 @@ use Rattle.caches.specs.Views.{caches_of}
 use Rattle.caches.proofs.Moves.{bounds, own_home, held-tag, rewritten}
 use Rattle.caches.proofs.table.Caches.write.Goals as goal
 
-pub invariant-of-self : goal.invariant-of-self
-invariant-of-self c =
+pub invariant_of-self : goal.invariant_of-self
+invariant_of-self c =
     let s = c.args.self.now in
     let k = c.args.seat in
     let i = c.place-of-at.result in

@@ -4,17 +4,17 @@ use Rattle.memory.specs.declared.queue.Waiting.{Waiting}
 use Rattle.memory.specs.Tables.{apart-turned, take-turned}
 use Rattle.memory.proofs.queue.Queue.pop.Goals as goal
 
-pub invariant-of-self : goal.invariant-of-self
-invariant-of-self c =
+pub invariant_of-self : goal.invariant_of-self
+invariant_of-self c =
     let q = c.args.self.now in
     let w = q.within in
     let p = q.places in
     let apart = apart-turned q.table q.count (omega arith) q.apart (omega arith) in
-    (omega arith, (search rules, (subst (λ (t : List Waiting). Apart (take (q.count - 1) t)) (sym c.rotate-left.ensures.after) apart, (search rules, tt))))
+    (omega arith, (search rules, (subst (λ (t : List Waiting). Apart (take (q.count - 1) t)) (sym c.rotate_left.ensures.after) apart, (search rules, tt))))
 
 pub returns : goal.returns
 returns c =
     let q = c.args.self.now in
     let w = q.within in
     let p = q.places in
-    rw c.rotate-left.ensures.after (take-turned q.table q.count blank (omega arith) (omega arith))
+    rw c.rotate_left.ensures.after (take-turned q.table q.count blank (omega arith) (omega arith))

@@ -5,8 +5,8 @@ use Rattle.memory.specs.Ages.{waits}
 use Rattle.memory.specs.Tables.{front_long, apart-come, wide-set}
 use Rattle.memory.proofs.queue.Queue.push.Goals as goal
 
-pub invariant-of-self : goal.invariant-of-self
-invariant-of-self c =
+pub invariant_of-self : goal.invariant_of-self
+invariant_of-self c =
     let q = c.args.self.now in
     let w = q.within in
     let p = q.places in

@@ -19,4 +19,4 @@ returns-in-Some g c =
 
 pub returns-in-None : goal.returns-in-None
 returns-in-None g c =
-    read_below (buffer g.M.Memory.lines c.args.self.now) c.args.line c.read-line.result c.in-None.ensures c.read-line.ensures
+    read_below (buffer g.M.Memory.lines c.args.self.now) c.args.line c.read_line.result c.in-None.ensures c.read_line.ensures

@@ -23,7 +23,7 @@ returns g c =
     record {
       answers = (line-within (seen b) c.args.line (omega arith), refl);
       refused = tt;
-      lines = ap seen c.take-line.ensures.taken ∙ seen-line c.args.line b c.args.words;
-      aside = c.take-line.ensures.aside;
-      taken = c.take-line.ensures.taken;
+      lines = ap seen c.take_line.ensures.taken ∙ seen-line c.args.line b c.args.words;
+      aside = c.take_line.ensures.aside;
+      taken = c.take_line.ensures.taken;
     }

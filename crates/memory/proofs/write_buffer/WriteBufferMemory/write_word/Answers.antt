@@ -26,7 +26,7 @@ returns g c =
     record {
       answers = (word-within (seen b) c.args.line c.args.word (omega arith) (omega arith), refl);
       refused = tt;
-      lines = ap seen c.take-word.ensures.taken ∙ seen-word c.args.line b c.args.word c.args.value;
-      aside = c.take-word.ensures.aside;
-      taken = c.take-word.ensures.taken;
+      lines = ap seen c.take_word.ensures.taken ∙ seen-word c.args.line b c.args.word c.args.value;
+      aside = c.take_word.ensures.aside;
+      taken = c.take_word.ensures.taken;
     }

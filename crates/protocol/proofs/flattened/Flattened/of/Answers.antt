@@ -9,8 +9,8 @@ loop-seat-preserved g c =
     written-more (g.P.Protocol.cells c.args.protocol.now) c.loop-seat.rows c.loop-seat.seat c.row.result (omega arith) n c.row.ensures
     c.loop-seat.invariant
 
-pub invariant-of-result : goal.invariant-of-result
-invariant-of-result g c =
+pub invariant_of-result : goal.invariant_of-result
+invariant_of-result g c =
     let p = g.P.Protocol.cells c.args.protocol.now in
     let lawful = g.met.P.Protocol.lawful c.args.protocol.now in
     let e : c.loop-seat.seat ≡ 8 = omega arith in

@@ -4,10 +4,10 @@ use Rattle.protocol.specs.Tables.{EachKeeps}
 use Rattle.protocol.proofs.Firsts.{refusal-none, refusal-first, no_fault, table-lawful}
 use Rattle.protocol.proofs.table.Table.load.Goals as goal
 
-pub invariant-of-result : goal.invariant-of-result
-invariant-of-result c = (
-  table-lawful c.copy-from-slice.new.self c.copy-from-slice.ensures.len
-      (subst (λ (bs : List ℕ). EachKeeps bs) (sym c.copy-from-slice.ensures.after) c.in-None.ensures.each),
+pub invariant_of-result : goal.invariant_of-result
+invariant_of-result c = (
+  table-lawful c.copy_from_slice.new.self c.copy_from_slice.ensures.len
+      (subst (λ (bs : List ℕ). EachKeeps bs) (sym c.copy_from_slice.ensures.after) c.in-None.ensures.each),
   tt,
 )
 
@@ -21,7 +21,7 @@ returns-in-Some c = record {
 
 pub returns-in-None : goal.returns-in-None
 returns-in-None c = record {
-  answer = (refusal-none c.args.bytes.now c.in-None.ensures, c.copy-from-slice.ensures.after);
+  answer = (refusal-none c.args.bytes.now c.in-None.ensures, c.copy_from_slice.ensures.after);
   accepted = λ e. c.in-None.ensures;
   lawful = λ k. refl;
   refused = tt;

@@ -11,7 +11,7 @@ use Rattle.run.proofs.run.Run.open.Goals as goal
 pub returns : goal.returns
 returns g c =
     let z = sizes c.args.agreed.seats c.args.agreed.sets (length (g.M.Memory.lines c.args.memory)) in
-    let e = as-opened (g.P.Protocol.cells c.args.protocol) c.args.agreed (g.M.Memory.lines c.args.memory) c.new.result c.blank-tally.result c.new.ensures.caches c.blank-tally.ensures in
+    let e = as-opened (g.P.Protocol.cells c.args.protocol) c.args.agreed (g.M.Memory.lines c.args.memory) c.new.result c.blank_tally.result c.new.ensures.caches c.blank_tally.ensures in
     let since = subst (λ (s : System). Since z s (begun 4 (g.M.Memory.lines c.args.memory))) (sym e)
     (begins (g.P.Protocol.cells c.args.protocol) (g.met.P.Protocol.lawful c.args.protocol) c.args.agreed (g.M.Memory.lines c.args.memory) (g.met.M.Memory.lawful c.args.memory).shaped)
     in

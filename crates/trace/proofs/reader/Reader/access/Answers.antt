@@ -19,6 +19,6 @@ returns c =
     let h = c.in-ok-access.ensures.comes in
     record {
       reads = h;
-      faithful = keeps-faith access-grammar c.args.self.now.text.now c.args.self.now.at c.args.self.now.within (Ok c.in-ok-access.access) c.access-line.new.self.at h;
+      faithful = keeps-faith access-grammar c.args.self.now.text.now c.args.self.now.at c.args.self.now.within (Ok c.in-ok-access.access) c.access_line.new.self.at h;
       text = c.in-ok-access.ensures.text;
     }

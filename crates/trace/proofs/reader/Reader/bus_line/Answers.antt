@@ -19,6 +19,6 @@ returns c =
     let h = c.in-ok-line.ensures.comes in
     record {
       reads = h;
-      faithful = keeps-faith bus-grammar c.args.self.now.text.now c.args.self.now.at c.args.self.now.within (Ok c.in-ok-line.line) c.bus-parts.new.self.at h;
+      faithful = keeps-faith bus-grammar c.args.self.now.text.now c.args.self.now.at c.args.self.now.within (Ok c.in-ok-line.line) c.bus_parts.new.self.at h;
       text = c.in-ok-line.ensures.text;
     }

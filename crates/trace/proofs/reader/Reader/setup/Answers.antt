@@ -7,7 +7,7 @@ use Rattle.trace.proofs.reader.Reader.setup.Goals as goal
 
 pub checked-requires : goal.checked-requires
 checked-requires c =
-    let p = words_inside c.args.self.now.text.now c.args.self.now.at c.in-ok-line.line c.bus-line.new.self.at c.args.self.now.within c.in-ok-line.ensures.reads in
+    let p = words_inside c.args.self.now.text.now c.args.self.now.at c.in-ok-line.line c.bus_line.new.self.at c.args.self.now.within c.in-ok-line.ensures.reads in
     record { first = p.0; second = p.1 }
 
 pub returns-in-err-setup : goal.returns-in-err-setup
@@ -17,7 +17,7 @@ returns-in-err-setup c =
     let i = c.args.self.now.at in
     let f = c.in-err-setup.field-0.0 in
     let e = p.1 ∙ ap Err p.2 in
-    let o = open-line t i c.in-ok-line.line c.bus-line.new.self.at (omega arith) c.in-ok-line.ensures.reads in
+    let o = open-line t i c.in-ok-line.line c.bus_line.new.self.at (omega arith) c.in-ok-line.ensures.reads in
     record {
       settled = settled-err (open_stop t i) (Opened t i i) c.from-residual-in-err-setup.result f e (o ∙ c.in-err-setup.ensures);
       held = held-err (i ≡ i) c.from-residual-in-err-setup.result f e refl;
@@ -30,7 +30,7 @@ returns c =
     let i = c.args.self.now.at in
     let h = c.in-ok-line.ensures in
     let s = c.in-ok-setup.ensures in
-    let o = open-line t i c.in-ok-line.line c.bus-line.new.self.at (omega arith) h.reads in
+    let o = open-line t i c.in-ok-line.line c.bus_line.new.self.at (omega arith) h.reads in
     record {
       settled = (o ∙ s.0, record { line = c.in-ok-line.line; reads = h.reads; given = s.1 });
       held = tt;
