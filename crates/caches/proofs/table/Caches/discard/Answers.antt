@@ -17,7 +17,7 @@ invariant_of-self c =
     let p = get_or (get_or s.table k []) i blank in
     let q : CacheLine = record { state = Invalid; tag = p.tag; words = p.words } in
     let b = bounds s k c.requires i at.below q (λ _. own_home s k c.requires c.args.line i at.place q c.if-self-seat.true) in
-    (s.few, (s.some, (s.narrow, (s.listed, (b.rows, (b.wide, (b.homed, tt)))))))
+    record { few = s.few; some = s.some; narrow = s.narrow; listed = s.listed; rows = b.rows; wide = b.wide; homed = b.homed }
 
 pub returns-then-self-seat : goal.returns-then-self-seat
 unfolding caches_of

@@ -26,7 +26,7 @@ invariant_of-self g c =
     bounds s k c.requires.on i at.below q
     (λ _. own_home s k c.requires.on n i at.place q (c.snoop-after.ensures.tag ∙ held-tag s k c.requires.on n i at.place held))
     in
-    (s.few, (s.some, (s.narrow, (s.listed, (b.rows, (b.wide, (b.homed, tt)))))))
+    record { few = s.few; some = s.some; narrow = s.narrow; listed = s.listed; rows = b.rows; wide = b.wide; homed = b.homed }
 
 pub note-requires : goal.note-requires
 note-requires g c =

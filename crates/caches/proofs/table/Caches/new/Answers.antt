@@ -11,10 +11,16 @@ use Rattle.caches.proofs.table.Caches.new.Goals as goal
 pub invariant_of-result : goal.invariant_of-result
 invariant_of-result c =
     let a = c.args.agreed in
-    let listed : among c.sets.result set_counts ≡ true = subst (λ (m : ℕ). among m set_counts ≡ true) (sym c.sets.ensures) a.listed in (
-      subst (λ (m : ℕ). m ≤ 8) (sym c.seats.ensures) a.few,
-      (listed-some c.sets.result listed, (listed-few c.sets.result listed, (listed, (refl, (open-wide, (open-homed c.sets.result, tt)))))),
-    )
+    let listed : among c.sets.result set_counts ≡ true = subst (λ (m : ℕ). among m set_counts ≡ true) (sym c.sets.ensures) a.listed in
+    record {
+      few = subst (λ (m : ℕ). m ≤ 8) (sym c.seats.ensures) a.few;
+      some = listed-some c.sets.result listed;
+      narrow = listed-few c.sets.result listed;
+      listed = listed;
+      rows = refl;
+      wide = open-wide;
+      homed = open-homed c.sets.result;
+    }
 
 pub returns : goal.returns
 unfolding caches_of

@@ -14,7 +14,7 @@ invariant_of-self c =
     bounds s c.args.seat c.requires.on c.place-of-at.result at.below q
     (λ _. own_home s c.args.seat c.requires.on c.args.line c.place-of-at.result at.place q refl)
     in
-    (s.few, (s.some, (s.narrow, (s.listed, (b.rows, (b.wide, (b.homed, tt)))))))
+    record { few = s.few; some = s.some; narrow = s.narrow; listed = s.listed; rows = b.rows; wide = b.wide; homed = b.homed }
 
 pub returns : goal.returns
 unfolding caches_of

@@ -15,7 +15,7 @@ invariant_of-self c =
     bounds s k c.requires.on i at.below q
     (λ _. own_home s k c.requires.on c.args.line i at.place q (c.take.ensures.tag ∙ held-tag s k c.requires.on c.args.line i at.place c.requires.held))
     in
-    (s.few, (s.some, (s.narrow, (s.listed, (b.rows, (b.wide, (b.homed, tt)))))))
+    record { few = s.few; some = s.some; narrow = s.narrow; listed = s.listed; rows = b.rows; wide = b.wide; homed = b.homed }
 
 pub returns : goal.returns
 unfolding caches_of

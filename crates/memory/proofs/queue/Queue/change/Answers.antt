@@ -13,7 +13,12 @@ invariant_of-self c =
     let old = get_or q.table c.args.place blank in
     let x = with_words (λ words. set words c.args.word c.args.value) old in
     let new = length-set old.words c.args.word c.args.value ∙ q.wide c.args.place (omega arith) in
-    (w, (length-set q.table c.args.place x ∙ p, (apart-changed q.table q.count (omega arith) q.apart (λ words. set words c.args.word c.args.value) c.args.place (omega arith), (wide-set q.table c.args.place x p q.wide new, tt))))
+    record {
+      within = w;
+      places = length-set q.table c.args.place x ∙ p;
+      apart = apart-changed q.table q.count (omega arith) q.apart (λ words. set words c.args.word c.args.value) c.args.place (omega arith);
+      wide = wide-set q.table c.args.place x p q.wide new;
+    }
 
 pub returns : goal.returns
 returns c =

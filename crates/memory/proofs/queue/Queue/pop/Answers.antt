@@ -10,7 +10,12 @@ invariant_of-self c =
     let w = q.within in
     let p = q.places in
     let apart = apart-turned q.table q.count (omega arith) q.apart (omega arith) in
-    (omega arith, (search rules, (subst (λ (t : List Waiting). Apart (take (q.count - 1) t)) (sym c.rotate_left.ensures.after) apart, (search rules, tt))))
+    record {
+      within = omega arith;
+      places = search rules;
+      apart = subst (λ (t : List Waiting). Apart (take (q.count - 1) t)) (sym c.rotate_left.ensures.after) apart;
+      wide = search rules;
+    }
 
 pub returns : goal.returns
 returns c =

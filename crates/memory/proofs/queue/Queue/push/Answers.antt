@@ -14,7 +14,12 @@ invariant_of-self c =
     let room = eqb-false (length (take q.count q.table)) 4 c.requires.room in
     let new : length c.args.words ≡ 4 = search rules in
     let x = waits c.args.line c.args.words in
-    (omega arith, (length-set q.table q.count x ∙ p, (apart-come q.table q.count (omega arith) q.apart x (omega arith) c.requires.other, (wide-set q.table q.count x p q.wide new, tt))))
+    record {
+      within = omega arith;
+      places = length-set q.table q.count x ∙ p;
+      apart = apart-come q.table q.count (omega arith) q.apart x (omega arith) c.requires.other;
+      wide = wide-set q.table q.count x p q.wide new;
+    }
 
 pub returns : goal.returns
 returns c =

@@ -12,7 +12,12 @@ invariant_of-self c =
     let long = front_long q.table q.count (omega arith) in
     let new : length c.args.words ≡ 4 = search rules in
     let x = with_words (λ _. c.args.words) (get_or q.table c.args.place blank) in
-    (w, (length-set q.table c.args.place x ∙ p, (apart-changed q.table q.count (omega arith) q.apart (λ _. c.args.words) c.args.place (omega arith), (wide-set q.table c.args.place x p q.wide new, tt))))
+    record {
+      within = w;
+      places = length-set q.table c.args.place x ∙ p;
+      apart = apart-changed q.table q.count (omega arith) q.apart (λ _. c.args.words) c.args.place (omega arith);
+      wide = wide-set q.table c.args.place x p q.wide new;
+    }
 
 pub returns : goal.returns
 returns c =

@@ -15,7 +15,7 @@ invariant_of-result g c =
     let lawful = g.met.P.Protocol.lawful c.args.protocol.now in
     let e : c.loop-seat.seat ≡ 8 = omega arith in
     let so = subst (Written p c.loop-seat.rows) e c.loop-seat.invariant in
-    (so.seats, (so.wide, (alike-lawful p c.loop-seat.rows lawful (written-alike p c.loop-seat.rows lawful so), tt)))
+    record { seats = so.seats; wide = so.wide; lawful = alike-lawful p c.loop-seat.rows lawful (written-alike p c.loop-seat.rows lawful so) }
 
 pub returns : goal.returns
 returns g c =

@@ -5,11 +5,11 @@ use Rattle.protocol.proofs.Firsts.{refusal-none, refusal-first, no_fault, table-
 use Rattle.protocol.proofs.table.Table.load.Goals as goal
 
 pub invariant_of-result : goal.invariant_of-result
-invariant_of-result c = (
-  table-lawful c.copy_from_slice.new.self c.copy_from_slice.ensures.len
-      (subst (λ (bs : List ℕ). EachKeeps bs) (sym c.copy_from_slice.ensures.after) c.in-None.ensures.each),
-  tt,
-)
+invariant_of-result c = record {
+  lawful =
+      table-lawful c.copy_from_slice.new.self c.copy_from_slice.ensures.len
+      (subst (λ (bs : List ℕ). EachKeeps bs) (sym c.copy_from_slice.ensures.after) c.in-None.ensures.each);
+}
 
 pub returns-in-Some : goal.returns-in-Some
 returns-in-Some c = record {
