@@ -10,7 +10,7 @@ use Rattle.rules.specs.Transactions.{Protocol, write_back, dropped, through_inva
 use Rattle.rules.specs.Caches.{room, victim, lines_at}
 use Rattle.rules.specs.Tallies.{one_displaced, one_flushed}
 use Rattle.rules.specs.Machines.{Machine, column, holds, change, transact}
-use Rattle.rules.specs.Accesses.{counting, state_in, written_back_if, let_go, emptied_if, emptied, flushed_if, flushed, filled, fetched_if, fetched, owner_writes_back, saved_from, through, written_at_lem, written_held_lem, missed_by, written_if, written, flushed_each, flushed_set}
+use Rattle.rules.specs.Accesses.{counting, state_in, written_back_if, let_go, emptied_if, emptied, flushed_if, flushed, filled, fetched_if, fetched, owner_writes_back, saved_from, through, written_at, written_held, missed_by, written_if, written, flushed_each, flushed_set}
 
 module _ (r n : ℕ) (m : Machine) where
   pub let_go-owned : owned (state_in r n m) ≡ true → let_go r n m ≡ change n (dropped r) (transact WriteBack r n (write_back r) m)
@@ -54,11 +54,11 @@ module _ (cell : Protocol) (r n o v : ℕ) (m : Machine) where
   unfolding through
   through-is = refl
 
-  pub written_held-at : (s : State) → state_in r n m ≡ s → written_held_lem cell r n o v m ≡ written_at_lem cell r n o v s m
-  unfolding written_held_lem
-  written_held-at s e = ap (λ (x : State). written_at_lem cell r n o v x m) e
+  pub written_held-at : (s : State) → state_in r n m ≡ s → written_held cell r n o v m ≡ written_at cell r n o v s m
+  unfolding written_held
+  written_held-at s e = ap (λ (x : State). written_at cell r n o v x m) e
 
-  pub written_held_lem : holds r n m ≡ true → written cell r n o v m ≡ written_held_lem cell r n o v m
+  pub written_held_lem : holds r n m ≡ true → written cell r n o v m ≡ written_held cell r n o v m
   unfolding written
   written_held_lem e = ap (λ (b : Bool). written_if cell r n o v b m) e
 

@@ -10,7 +10,7 @@ use Rattle.protocol.specs.Cells.{Lawful, among}
 use Rattle.protocol.specs.Transactions.{digit_transaction}
 use Rattle.rules.specs.Transactions.{Protocol, silent}
 use Rattle.rules.specs.Machines.{Machine, change}
-use Rattle.rules.specs.Accesses.{sent_by, written_at_lem}
+use Rattle.rules.specs.Accesses.{sent_by, written_at}
 use Rattle.rules.proofs.Tables.{within}
 use Rattle.bus.specs.Choices.{code_at, chosen}
 
@@ -19,7 +19,7 @@ unsaid o s e = absurd (both_ways (is_some o) (ap is_some e) s)
 
 module _ (cell : Protocol) (law : Lawful cell) (r n o v : ℕ) (m : Machine) where
   -- a held copy whose write makes a transaction
-  pub sent-by : (s : State) (t : Transaction) → valid s ≡ true → chosen (cell r) s ≡ Some t → written_at_lem cell r n o v s m ≡ sent_by cell r n o v (Some t) m
+  pub sent-by : (s : State) (t : Transaction) → valid s ≡ true → chosen (cell r) s ≡ Some t → written_at cell r n o v s m ≡ sent_by cell r n o v (Some t) m
   sent-by Invalid t h e = absurd (false≢true h)
   sent-by Shared t h e = ap (λ (x : Option Transaction). sent_by cell r n o v x m) e
   sent-by Exclusive t h e = absurd (both_ways (is_some (chosen (cell r) Exclusive)) refl (ap is_some e))
@@ -27,7 +27,7 @@ module _ (cell : Protocol) (law : Lawful cell) (r n o v : ℕ) (m : Machine) whe
   sent-by Modified t h e = absurd (both_ways (is_some (chosen (cell r) Modified)) refl (ap is_some e))
 
   -- a held copy whose write makes none
-  pub sent-none : (s : State) → valid s ≡ true → chosen (cell r) s ≡ None → written_at_lem cell r n o v s m ≡ change n (silent r o v) m
+  pub sent-none : (s : State) → valid s ≡ true → chosen (cell r) s ≡ None → written_at cell r n o v s m ≡ change n (silent r o v) m
   sent-none Invalid h e = absurd (false≢true h)
   sent-none Shared h e = unsaid (chosen (cell r) Shared) (within (λ b. is_some (digit_transaction b)) (cell r 1) (codes "3456") (law r 1) refl) e
   sent-none Exclusive h e = refl

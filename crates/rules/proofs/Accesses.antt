@@ -13,7 +13,7 @@ use Rattle.rules.specs.declared.tally.Tally.{Tally}
 use Rattle.rules.specs.Columns.{Copy, none, kept, Column, state_at, words_at, one, holders, owner_of}
 use Rattle.rules.specs.Transactions.{Protocol, read_shared, read_invalidate, invalidate, update, through_update, through_invalidate, write_back, silent}
 use Rattle.rules.specs.Machines.{Machine, column, copies_of, copies_held, holds, change, transact}
-use Rattle.rules.specs.Accesses.{state_in, emptied, filled, fetched_if, fetched, owner_writes_back, saved_from, through, sent_by, written_at_lem, written_held_lem, missed_by, written_if, written}
+use Rattle.rules.specs.Accesses.{state_in, emptied, filled, fetched_if, fetched, owner_writes_back, saved_from, through, sent_by, written_at, written_held, missed_by, written_if, written}
 use Rattle.rules.specs.Coherence.{Sizes}
 use Rattle.rules.proofs.Seats.{holders-set, Found, owner_owns}
 use Rattle.rules.proofs.Lines.{Moved}
@@ -157,15 +157,15 @@ module _ (z : Sizes) (cell : Protocol) (law : Lawful cell) (n : ℕ) (there : n 
           moved : Moved (column m n) (silent r o v (column m n)) r true (set (get_or truth n []) o v)
           moved = silent-moved (column m n) (get_or truth n []) (ok.sound.each n there) r (on-column ok n r on) o v only
 
-      written_at_lem : (s : State) → state_in r n m ≡ s → Good z (newer truth) (written_at_lem cell r n o v s m)
+      written_at_lem : (s : State) → state_in r n m ≡ s → Good z (newer truth) (written_at cell r n o v s m)
       written_at_lem Invalid e = absurd (both_ways (holds r n m) (ap valid e) held)
       written_at_lem Shared e = sent-good (cell r 1) (law r 1)
       written_at_lem Exclusive e = silent-good (ap exclusive e)
       written_at_lem Owned e = sent-good (cell r 2) (law r 2)
       written_at_lem Modified e = silent-good (ap exclusive e)
 
-      pub written_held-good : Good z (newer truth) (written_held_lem cell r n o v m)
-      unfolding written_held_lem
+      pub written_held-good : Good z (newer truth) (written_held cell r n o v m)
+      unfolding written_held
       written_held-good = written_at_lem (state_in r n m) refl
 
     module _ (truth : List (List ℕ)) (m : Machine) (ok : Good z truth m) where

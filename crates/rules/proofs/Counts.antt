@@ -11,7 +11,7 @@ use Rattle.rules.specs.Columns.{Column, none, owner_of}
 use Rattle.rules.specs.Caches.{room, victim}
 use Rattle.rules.specs.Transactions.{Protocol, dropped, silent, read_shared, read_invalidate, invalidate, update, through_update, through_invalidate, write_back}
 use Rattle.rules.specs.Machines.{Machine, column, holds, record_of, change, transact}
-use Rattle.rules.specs.Accesses.{state_in, written_back_if, let_go, emptied_if, emptied, flushed_if, flushed, filled, fetched_if, fetched, owner_writes_back, saved_from, through, sent_by, written_at_lem, written_held_lem, missed_by, written_if, written}
+use Rattle.rules.specs.Accesses.{state_in, written_back_if, let_go, emptied_if, emptied, flushed_if, flushed, filled, fetched_if, fetched, owner_writes_back, saved_from, through, sent_by, written_at, written_held, missed_by, written_if, written}
 
 -- the records made so far
 abbrev pub made : Machine → ℕ
@@ -84,15 +84,15 @@ module _ (cell : Protocol) (r n : ℕ) where
     sent-made (Some ThroughInvalidate) m = through-made m
     sent-made (Some WriteBack) m = omega arith
 
-    at-made : (s : State) (m : Machine) → made (written_at_lem cell r n o v s m) ≤ made m + 2
+    at-made : (s : State) (m : Machine) → made (written_at cell r n o v s m) ≤ made m + 2
     at-made Invalid m = omega arith
     at-made Shared m = sent-made (digit_transaction (cell r 1)) m
     at-made Exclusive m = omega (arith, change-made n (silent r o v) m)
     at-made Owned m = sent-made (digit_transaction (cell r 2)) m
     at-made Modified m = omega (arith, change-made n (silent r o v) m)
 
-    pub held-made : (m : Machine) → made (written_held_lem cell r n o v m) ≤ made m + 2
-    unfolding written_held_lem
+    pub held-made : (m : Machine) → made (written_held cell r n o v m) ≤ made m + 2
+    unfolding written_held
     held-made m = at-made (state_in r n m) m
 
     missed-made : (t : Option Transaction) (m : Machine) → made (missed_by cell r n o v t m) ≤ made m + 4

@@ -22,7 +22,7 @@ use Rattle.rules.specs.Columns.{Copy, none, Column, state_at, one, alone, suppli
 use Rattle.rules.specs.Transactions.{Protocol, hear, heard_rs, after_rs, same, read_shared, read_invalidate, invalidate, update, through_update, through_invalidate, write_back, silent, dropped}
 use Rattle.rules.specs.Caches.{Cache, look, room, victim, put}
 use Rattle.rules.specs.Machines.{Machine, column, copies_of, holds, record_of, change, transact, supplier_of, owner_or_memory}
-use Rattle.rules.specs.Accesses.{state_in, written_back_if, let_go, emptied_if, emptied, flushed_if, flushed, filled, fetched_if, fetched, owner_writes_back, saved_from, through, sent_by, written_at_lem, written_held_lem, missed_by, written_if, written, settled}
+use Rattle.rules.specs.Accesses.{state_in, written_back_if, let_go, emptied_if, emptied, flushed_if, flushed, filled, fetched_if, fetched, owner_writes_back, saved_from, through, sent_by, written_at, written_held, missed_by, written_if, written, settled}
 use Rattle.rules.specs.Systems.{System, Outcome, Closing, state_on, at_work, places_needed, due_in, reached, ended, outcome_if, outcome, after, closed}
 use Rattle.rules.specs.Ledgers.{Ledger}
 use Rattle.rules.specs.Coherence.{Sizes, addresses}
@@ -301,15 +301,15 @@ module _ (z : Sizes) (cell : Protocol) (law : Lawful cell) (n : ℕ) (there : n 
     sent-told m ok h (Some ThroughInvalidate) = through-told m ok h
     sent-told m ok h (Some WriteBack) = h.told
 
-    at_told : (m : Machine) → Good z truth m → Honest s m → (t : State) → All (Fair s) (written_at_lem cell r n o v t m).records
+    at_told : (m : Machine) → Good z truth m → Honest s m → (t : State) → All (Fair s) (written_at cell r n o v t m).records
     at_told m ok h Invalid = h.told
     at_told m ok h Shared = sent-told m ok h (digit_transaction (cell r 1))
     at_told m ok h Exclusive = subst (All (Fair s)) (sym (change-told n (silent r o v) m)) h.told
     at_told m ok h Owned = sent-told m ok h (digit_transaction (cell r 2))
     at_told m ok h Modified = subst (All (Fair s)) (sym (change-told n (silent r o v) m)) h.told
 
-    held-told : (m : Machine) → Good z truth m → Honest s m → All (Fair s) (written_held_lem cell r n o v m).records
-    unfolding written_held_lem
+    held-told : (m : Machine) → Good z truth m → Honest s m → All (Fair s) (written_held cell r n o v m).records
+    unfolding written_held
     held-told m ok h = at_told m ok h (state_in r n m)
 
     missed-told : (m : Machine) → Good z truth m → holds r n m ≡ false → copies_of n m.caches ≡ copies_of n s.caches → Honest s m → (t : Option Transaction) → All (Fair s) (missed_by cell r n o v t m).records

@@ -157,7 +157,7 @@ module _ (z : Sizes) (truth : List (List ℕ)) (cs : List Cache) (memory : List 
   all_fit : Fits n cs col.copies
   all_fit k l e =
       ⊎_elim (λ p. subst (λ (j : ℕ). room (get_or cs j []) n ≡ true) (sym p) (space (sym moved.own ∙ subst (λ (j : ℕ). valid (state_at col.copies j) ≡ true) p e)))
-      (λ ne. look-room (get_or cs k []) n (ap (λ (x : Copy). valid x.state) (sym (column-at n cs k)) ∙ moved.no-gain k ne e))
+      (λ ne. look-room (get_or cs k []) n (ap (λ (x : Copy). valid x.state) (sym (column-at n cs k)) ∙ moved.no_gain k ne e))
       (cases_eq k r)
 
   -- the line afterwards
@@ -208,6 +208,6 @@ module _ (z : Sizes) (truth : List (List ℕ)) (cs : List Cache) (memory : List 
       omega (
         arith,
         install-held,
-        lost-count (copies_of n cs) col.copies r moved.long (subst (λ (k : ℕ). r < k) (sym (length-map cs (λ c. look c n) ∙ ok.seated)) on) moved.no-gain,
+        lost-count (copies_of n cs) col.copies r moved.long (subst (λ (k : ℕ). r < k) (sym (length-map cs (λ c. look c n) ∙ ok.seated)) on) moved.no_gain,
         ap one moved.own,
       )

@@ -19,9 +19,9 @@ use Rattle.rules.specs.Caches.{room, victim, lines_at}
 use Rattle.rules.specs.Transactions.{Protocol, dropped, silent, read_shared, read_invalidate, invalidate, update, through_update, through_invalidate, write_back, reflects}
 use Rattle.rules.specs.Tallies.{counted, if_reflected, more_invalidated, tallied, one_displaced, one_flushed, one_read, one_write}
 use Rattle.rules.specs.Machines.{Machine, column, holds, lost, reflected_by, record_of, change, transact}
-use Rattle.rules.specs.Accesses.{counting, state_in, written_back_if, let_go, emptied_if, emptied, flushed_if, flushed, filled, fetched_if, fetched, owner_writes_back, saved_from, through, sent_by, written_at_lem, written_held_lem, missed_by, written_if, written, flushed_each, flushed_set, flushed_sets, flushed_seat, flushed_seats, settled}
+use Rattle.rules.specs.Accesses.{counting, state_in, written_back_if, let_go, emptied_if, emptied, flushed_if, flushed, filled, fetched_if, fetched, owner_writes_back, saved_from, through, sent_by, written_at, written_held, missed_by, written_if, written, flushed_each, flushed_set, flushed_sets, flushed_seat, flushed_seats, settled}
 use Rattle.rules.specs.Systems.{System, at_work, reached, due_in, outcome_if, outcome}
-use Rattle.rules.specs.Laws.{ByReading, moves, forward, transactions_of, one_more_lem, one_reflected, one_filled, never, always, accessed}
+use Rattle.rules.specs.Laws.{ByReading, moves, forward, transactions_of, one_more, one_reflected, one_filled, never, always, accessed}
 
 -- what every transaction and every change keeps, and the counting of a displaced and of a flushed copy, each access keeps
 module _
@@ -114,15 +114,15 @@ module _
         sent-keeps (Some ThroughInvalidate) m h = through-keeps m h
         sent-keeps (Some WriteBack) m h = h
 
-        at-keeps : (s : State) (m : Machine) → I m → I (written_at_lem cell r n o v s m)
+        at-keeps : (s : State) (m : Machine) → I m → I (written_at cell r n o v s m)
         at-keeps Invalid m h = h
         at-keeps Shared m h = sent-keeps (digit_transaction (cell r 1)) m h
         at-keeps Exclusive m h = ch n (silent r o v) m h
         at-keeps Owned m h = sent-keeps (digit_transaction (cell r 2)) m h
         at-keeps Modified m h = ch n (silent r o v) m h
 
-        held_keeps : (m : Machine) → I m → I (written_held_lem cell r n o v m)
-        unfolding written_held_lem
+        held_keeps : (m : Machine) → I m → I (written_held cell r n o v m)
+        unfolding written_held
         held_keeps m h = at-keeps (state_in r n m) m h
 
         missed-keeps : (t : Option Transaction) (m : Machine) → I m → I (missed_by cell r n o v t m)
@@ -230,7 +230,7 @@ transactions-counted : (x : Transaction) (t : Tally) (b : Bool) (k : ℕ) → tr
 transactions-counted x t true k = refl
 transactions-counted x t false k = refl
 
-one_more_lem : (x : Transaction) (t : Tally) (e : Record) → e.transaction ≡ x → transactions_of (counted x t) ≡ one_more_lem e (transactions_of t)
+one_more_lem : (x : Transaction) (t : Tally) (e : Record) → e.transaction ≡ x → transactions_of (counted x t) ≡ one_more e (transactions_of t)
 one_more_lem ReadShared t e p = rw p refl
 one_more_lem ReadInvalidate t e p = rw p refl
 one_more_lem Invalidate t e p = rw p refl
@@ -239,7 +239,7 @@ one_more_lem ThroughUpdate t e p = rw p refl
 one_more_lem ThroughInvalidate t e p = rw p refl
 one_more_lem WriteBack t e p = rw p refl
 
-transactions-moved : (e : Record) (k : ℕ) (t : Tally) → transactions_of (tallied e k t) ≡ one_more_lem e (transactions_of t)
+transactions-moved : (e : Record) (k : ℕ) (t : Tally) → transactions_of (tallied e k t) ≡ one_more e (transactions_of t)
 transactions-moved e k t = transactions-counted e.transaction t e.reflected k ∙ one_more_lem e.transaction t e refl
 
 read_transactions : (b : Bool) (t : Tally) → transactions_of (one_read b t) ≡ transactions_of t
@@ -250,8 +250,8 @@ write_transactions : (b : Bool) (t : Tally) → transactions_of (one_write b t) 
 write_transactions true t = refl
 write_transactions false t = refl
 
-pub transactions-level : (width : ℕ) (s : System) (call : Call) → transactions_of (reached width call s).tally ≡ forward one_more_lem (reached width call s).records (transactions_of s.tally)
-transactions-level width s call = reached-level (List ℕ) transactions_of one_more_lem transactions-moved (λ t. refl) (λ t. refl) s read_transactions write_transactions width call
+pub transactions-level : (width : ℕ) (s : System) (call : Call) → transactions_of (reached width call s).tally ≡ forward one_more (reached width call s).records (transactions_of s.tally)
+transactions-level width s call = reached-level (List ℕ) transactions_of one_more transactions-moved (λ t. refl) (λ t. refl) s read_transactions write_transactions width call
 
 -- the lines reflected
 reflected-counted : (x : Transaction) (t : Tally) → (counted x t).reflected ≡ t.reflected

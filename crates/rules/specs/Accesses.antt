@@ -96,21 +96,21 @@ module _ (cell : Protocol) (r n o v : ℕ) where
   sent_by (Some WriteBack) m = m
 
   -- a write of a held line, by its state: Shared follows cell 1, Owned cell 2, an exclusive copy uses no bus
-  abbrev pub written_at_lem : State → Machine → Machine
-  written_at_lem Invalid m = m
-  written_at_lem Shared m = sent_by (digit_transaction (cell r 1)) m
-  written_at_lem Exclusive m = change n (silent r o v) m
-  written_at_lem Owned m = sent_by (digit_transaction (cell r 2)) m
-  written_at_lem Modified m = change n (silent r o v) m
+  abbrev pub written_at : State → Machine → Machine
+  written_at Invalid m = m
+  written_at Shared m = sent_by (digit_transaction (cell r 1)) m
+  written_at Exclusive m = change n (silent r o v) m
+  written_at Owned m = sent_by (digit_transaction (cell r 2)) m
+  written_at Modified m = change n (silent r o v) m
 
   -- a write of a held line
-  unfoldable pub written_held_lem : Machine → Machine
-  written_held_lem m = written_at_lem (state_in r n m) m
+  unfoldable pub written_held : Machine → Machine
+  written_held m = written_at (state_in r n m) m
 
   -- a write at Invalid, by the transaction that cell 0 names: after read shared the write goes on as from Shared or Exclusive
   abbrev pub missed_by : Option Transaction → Machine → Machine
   missed_by None m = m
-  missed_by (Some ReadShared) m = written_held_lem (filled cell r n m)
+  missed_by (Some ReadShared) m = written_held (filled cell r n m)
   missed_by (Some ReadInvalidate) m = transact ReadInvalidate r n (read_invalidate r o v) (emptied r n m)
   missed_by (Some Invalidate) m = m
   missed_by (Some Update) m = m
@@ -120,7 +120,7 @@ module _ (cell : Protocol) (r n o v : ℕ) where
 
   -- by whether seat r holds line n
   abbrev pub written_if : Bool → Machine → Machine
-  written_if true m = written_held_lem m
+  written_if true m = written_held m
   written_if false m = missed_by (digit_transaction (cell r 0)) m
 
   -- a write by seat r

@@ -73,8 +73,8 @@ abbrev pub transactions_of : Tally → List ℕ
 transactions_of t = t.rs ∷ t.rx ∷ t.inv ∷ t.up ∷ t.tu ∷ t.ti ∷ t.wb ∷ []
 
 -- one more of the transaction that a record tells
-abbrev pub one_more_lem : Record → List ℕ → List ℕ
-one_more_lem e ns = slice_set ns (code e.transaction - 1) (slice_index ns (code e.transaction - 1) + 1)
+abbrev pub one_more : Record → List ℕ → List ℕ
+one_more e ns = slice_set ns (code e.transaction - 1) (slice_index ns (code e.transaction - 1) + 1)
 
 -- one more where a record says that its line was reflected
 abbrev pub one_reflected : Record → ℕ → ℕ
@@ -133,7 +133,7 @@ pub record BusLaws : Type 0 where
   pub reflections : (width : ℕ) (s : System) (call : Call) → All ByReading (outcome width call s).records
   -- the tally counts each transaction that an answered call makes, each line reflected, and each line brought to a seat
   pub counts : (width : ℕ) (s : System) (call : Call) → due_in width s call ≡ None
-      → transactions_of (outcome width call s).system.tally ≡ forward one_more_lem (reached width call s).records (transactions_of s.tally)
+      → transactions_of (outcome width call s).system.tally ≡ forward one_more (reached width call s).records (transactions_of s.tally)
   pub reflects : (width : ℕ) (s : System) (call : Call) → due_in width s call ≡ None
       → (outcome width call s).system.tally.reflected ≡ forward one_reflected (reached width call s).records s.tally.reflected
   pub fills : (width : ℕ) (s : System) (call : Call) → due_in width s call ≡ None

@@ -9,7 +9,7 @@ use Rattle.trace.specs.declared.fault.LineFault.{LineFault}
 use Rattle.trace.specs.declared.fault.LineFault.TheVariants.{Form, Number}
 use Rattle.trace.specs.Choices.{is_digit}
 use Rattle.trace.specs.Runs.{all_pass}
-use Rattle.trace.specs.Reading.{value_on_lem, fitting, kept_fault, number_of}
+use Rattle.trace.specs.Reading.{value_on, fitting, kept_fault, number_of}
 use Rattle.trace.proofs.Grammars.{stops}
 use Rattle.trace.proofs.Parting.{digits_other}
 use Rattle.trace.proofs.Valuing.{fits-small, fits-large}
@@ -67,15 +67,15 @@ pub cuts : (p : ℕ → Bool) (bs : List ℕ) → Cut p bs
 cuts p [] = record { rest = []; whole = refl; ends = refl; pass = refl }
 cuts p (b ∷ bs) = ⊎_elim (λ h. cut-yes p b bs h (cuts p bs)) (λ h. cut-no p b bs h) (cases_Bool (p b))
 
--- `is_digit` and `value_on_lem` are words for digits and the number that they write
+-- `is_digit` and `value_on` are words for digits and the number that they write
 tells : IsDigitsTest (λ ds. all_pass is_digit ds ≡ true)
 tells = search rules
 
-folds : FoldsDigits value_on_lem
+folds : FoldsDigits value_on
 folds = search rules
 
-pub own : IsNumeralModel (λ ds. all_pass is_digit ds ≡ true) (value_on_lem 0)
-own = numerals_by_fold (λ ds. all_pass is_digit ds ≡ true) tells value_on_lem folds
+pub own : IsNumeralModel (λ ds. all_pass is_digit ds ≡ true) (value_on 0)
+own = numerals_by_fold (λ ds. all_pass is_digit ds ≡ true) tells value_on folds
 
 pub small : (n : ℕ) → n < 2 ^ 32 → n < 2 ^ 64
 small n h = omega arith
@@ -100,15 +100,15 @@ decimal_read n i h =
 pub record ReadDigits (ds : List ℕ) (n : ℕ) : Type 0 where
   pub some : 0 < length ds
   pub leads : get_or ds 0 0 ≡ 48 → length ds ≡ 1
-  pub value : value_on_lem 0 ds ≡ n
+  pub value : value_on 0 ds ≡ n
   pub fits : n < 2 ^ 32
 
-fitting-ok : (ds : List ℕ) (i n : ℕ) → kept_fault (fitting ds i) ≡ Ok n → (value_on_lem 0 ds ≡ n) × (n < 2 ^ 32)
+fitting-ok : (ds : List ℕ) (i n : ℕ) → kept_fault (fitting ds i) ≡ Ok n → (value_on 0 ds ≡ n) × (n < 2 ^ 32)
 fitting-ok ds i n h =
     ⊎_elim
-    (λ (l : value_on_lem 0 ds < 2 ^ 32). let e : value_on_lem 0 ds ≡ n = cc (fits-small ds i l) in (e, omega (arith, e, l)))
-    (λ (l : 2 ^ 32 ≤ value_on_lem 0 ds). absurd (let z : ◌≡◌ {A = ℕ} 0 1 = cc (fits-large ds i l) in omega arith))
-    (cases_lt (value_on_lem 0 ds) (2 ^ 32))
+    (λ (l : value_on 0 ds < 2 ^ 32). let e : value_on 0 ds ≡ n = cc (fits-small ds i l) in (e, omega (arith, e, l)))
+    (λ (l : 2 ^ 32 ≤ value_on 0 ds). absurd (let z : ◌≡◌ {A = ℕ} 0 1 = cc (fits-large ds i l) in omega arith))
+    (cases_lt (value_on 0 ds) (2 ^ 32))
 
 -- digits that are read are at least one, have no leading zero, and write a number that fits
 pub digits_ok : (ds : List ℕ) (i n : ℕ) → number_of ds i ≡ Ok n → ReadDigits ds n
@@ -138,9 +138,9 @@ pub data WrongDigits (i : ℕ) : List ℕ → ℕ → Type 0 where
 not-form : (ds : List ℕ) (i k : ℕ) → kept_fault (fitting ds i) ≡ Err (Form k) → ⊥
 not-form ds i k h =
     ⊎_elim
-    (λ (l : value_on_lem 0 ds < 2 ^ 32). let z : ◌≡◌ {A = ℕ} 0 1 = cc (fits-small ds i l) in omega arith)
-    (λ (l : 2 ^ 32 ≤ value_on_lem 0 ds). let z : ◌≡◌ {A = ℕ} 0 1 = cc (fits-large ds i l) in omega arith)
-    (cases_lt (value_on_lem 0 ds) (2 ^ 32))
+    (λ (l : value_on 0 ds < 2 ^ 32). let z : ◌≡◌ {A = ℕ} 0 1 = cc (fits-small ds i l) in omega arith)
+    (λ (l : 2 ^ 32 ≤ value_on 0 ds). let z : ◌≡◌ {A = ℕ} 0 1 = cc (fits-large ds i l) in omega arith)
+    (cases_lt (value_on 0 ds) (2 ^ 32))
 
 pub digits_wrong : (ds : List ℕ) (i k : ℕ) → number_of ds i ≡ Err (Form k) → WrongDigits i ds k
 digits_wrong [] i k h = none (cc)
@@ -155,16 +155,16 @@ digits_wrong (d ∷ (e ∷ ds)) i k h =
     (cases_Bool (eqb d 48))
 
 -- a number that does not fit
-fitting-large : (ds : List ℕ) (i : ℕ) (f : NumberFault) → kept_fault (fitting ds i) ≡ Err (Number f) → (f.byte ≡ i) × (2 ^ 32 ≤ value_on_lem 0 ds)
+fitting-large : (ds : List ℕ) (i : ℕ) (f : NumberFault) → kept_fault (fitting ds i) ≡ Err (Number f) → (f.byte ≡ i) × (2 ^ 32 ≤ value_on 0 ds)
 fitting-large ds i f h =
-    ⊎_elim (λ (l : value_on_lem 0 ds < 2 ^ 32). absurd (let z : ◌≡◌ {A = ℕ} 0 1 = cc (fits-small ds i l) in omega arith))
-    (λ (l : 2 ^ 32 ≤ value_on_lem 0 ds).
+    ⊎_elim (λ (l : value_on 0 ds < 2 ^ 32). absurd (let z : ◌≡◌ {A = ℕ} 0 1 = cc (fits-small ds i l) in omega arith))
+    (λ (l : 2 ^ 32 ≤ value_on 0 ds).
     let q : ◌≡◌ {A = Result ℕ LineFault} (Err (Number (record { byte = i }))) (Err (Number f)) = sym (ap kept_fault (fits-large ds i l)) ∙ h in
     let e : ◌≡◌ {A = NumberFault} (record { byte = i }) f = cc in
     (sym (ap (λ (z : NumberFault). z.byte) e), l))
-    (cases_lt (value_on_lem 0 ds) (2 ^ 32))
+    (cases_lt (value_on 0 ds) (2 ^ 32))
 
-pub digits-large : (ds : List ℕ) (i : ℕ) (f : NumberFault) → number_of ds i ≡ Err (Number f) → (f.byte ≡ i) × (2 ^ 32 ≤ value_on_lem 0 ds)
+pub digits-large : (ds : List ℕ) (i : ℕ) (f : NumberFault) → number_of ds i ≡ Err (Number f) → (f.byte ≡ i) × (2 ^ 32 ≤ value_on 0 ds)
 digits-large [] i f h = absurd (let z : ◌≡◌ {A = ℕ} 0 1 = cc in omega arith)
 digits-large (d ∷ []) i f h = fitting-large (d ∷ []) i f h
 digits-large (d ∷ (e ∷ ds)) i f h =

@@ -9,7 +9,7 @@ use Rattle.trace.specs.declared.fault.NumberFault.{NumberFault}
 use Rattle.trace.specs.declared.fault.LineFault.{LineFault}
 use Rattle.trace.specs.declared.fault.LineFault.TheVariants.{Form, Number}
 use Rattle.trace.specs.declared.part.Part.TheVariants as part
-use Rattle.trace.specs.Reading.{Outcome, and_then, value_on_lem}
+use Rattle.trace.specs.Reading.{Outcome, and_then, value_on}
 use Rattle.trace.specs.Runs.{run}
 
 -- what is left of the text from a place on
@@ -58,7 +58,7 @@ pub record Stuck {X A : Type 0} (T : X → List ℕ) (G : X → Type 0) (p : Lis
 -- where a number is too large: its digits begin there
 pub record Large {X : Type 0} (T : X → List ℕ) (G : X → Type 0) (i : ℕ) (s : List ℕ) (k : ℕ) : Type 0 where
   pub at : Reached T G i s k
-  pub over : 2 ^ 32 ≤ value_on_lem 0 (run part.Number at.rest)
+  pub over : 2 ^ 32 ≤ value_on 0 (run part.Number at.rest)
 
 -- a reading p of the forms that T writes, those of which G holds, each with the value that it has at its place
 pub record Grammar {X A : Type 0} (T : X → List ℕ) (G : X → Type 0) (val : X → ℕ → A) (test : ℕ → Bool) (p : List ℕ → ℕ → Outcome A) : Type 0 where

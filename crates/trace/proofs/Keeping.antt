@@ -5,7 +5,7 @@ use Rattle.trace.specs.declared.fault.NumberFault.{NumberFault}
 use Rattle.trace.specs.declared.fault.LineFault.{LineFault}
 use Rattle.trace.specs.declared.fault.LineFault.TheVariants.{Form, Number}
 use Rattle.trace.specs.declared.part.Part.TheVariants as part
-use Rattle.trace.specs.Reading.{Outcome, Reads, value_on_lem}
+use Rattle.trace.specs.Reading.{Outcome, Reads, value_on}
 use Rattle.trace.specs.Runs.{run}
 use Rattle.trace.specs.Written.{Stands, Front, Overflow, Faithful}
 use Rattle.trace.proofs.Grammars.{From, from_on, stops, Passed, Reached, Stuck, Large, Grammar}
@@ -64,7 +64,7 @@ module _ {X A : Type 0} {T : X → List ℕ} {G : X → Type 0} {val : X → ℕ
   large-there k x =
       record {
         front = reached-front k x.at;
-        over = subst (λ (z : List ℕ). 2 ^ 32 ≤ value_on_lem 0 (run part.Number z)) (sym (digits-there k x.at)) x.over;
+        over = subst (λ (z : List ℕ). 2 ^ 32 ≤ value_on 0 (run part.Number z)) (sym (digits-there k x.at)) x.over;
       }
 
   -- the byte there, and what a sound line with it would be

@@ -6,7 +6,7 @@
 -- Comes     the same, with the place left open at a fault
 -- next_at    the next byte, if the text does not end here
 -- byte_at    just this byte
--- value_on_lem   the number that digits write, and fitting that it fits 32 bits
+-- value_on   the number that digits write, and fitting that it fits 32 bits
 -- number_at  a number: the longest run of digits, with no leading zero, below 2 ^ 32
 -- word_at    a word: the longest run of bytes that are no space and no byte 10
 use Rattle.std.specs.Prelude.{◌≡◌, ℕ, ◌+◌, ◌-◌, ◌*◌, ◌^◌, Bool, true, false, cond, List, [], ◌∷◌, length, drop, Some, None, Ok, Err, Option, Result, ◌==◌, nat_lt}
@@ -51,13 +51,13 @@ unfoldable pub byte_at : ℕ → List ℕ → ℕ → Outcome (Unit {0})
 byte_at b t i = cond (is_byte b (next_at t i)) (Ok (tt, i + 1)) (Err (Form i))
 
 -- the number that digits write after those that wrote n
-abbrev pub value_on_lem : ℕ → List ℕ → ℕ
-value_on_lem n [] = n
-value_on_lem n (d ∷ ds) = value_on_lem (n * 10 + (d - 48)) ds
+abbrev pub value_on : ℕ → List ℕ → ℕ
+value_on n [] = n
+value_on n (d ∷ ds) = value_on (n * 10 + (d - 48)) ds
 
 -- a number that fits 32 bits, or its fault
 abbrev pub fitting : List ℕ → ℕ → Result ℕ NumberFault
-fitting ds i = cond (nat_lt (value_on_lem 0 ds) (2 ^ 32)) (Ok (value_on_lem 0 ds)) (Err (record { byte = i }))
+fitting ds i = cond (nat_lt (value_on 0 ds) (2 ^ 32)) (Ok (value_on 0 ds)) (Err (record { byte = i }))
 
 -- the line's fault keeps the number's
 abbrev pub kept_fault : Result ℕ NumberFault → Result ℕ LineFault

@@ -18,7 +18,7 @@ use Rattle.trace.specs.declared.fault.LineFault.TheVariants.{Form, Number}
 use Rattle.trace.specs.declared.fault.NumberFault.{NumberFault}
 use Rattle.trace.specs.declared.part.Part.TheVariants as part
 use Rattle.trace.specs.declared.word.Word.{Word}
-use Rattle.trace.specs.Reading.{value_on_lem}
+use Rattle.trace.specs.Reading.{value_on}
 use Rattle.trace.specs.Runs.{all_pass, in_word, run_at}
 
 -- the end of a line
@@ -125,7 +125,7 @@ pub record Front {X : Type 0} (write : X → List ℕ) (Good : X → Type 0) (t 
 -- a number that does not fit begins at byte k, behind the front of a sound line
 pub record Overflow {X : Type 0} (write : X → List ℕ) (Good : X → Type 0) (t : List ℕ) (i k : ℕ) : Type 0 where
   pub front : Front write Good t i k
-  pub over : 2 ^ 32 ≤ value_on_lem 0 (run_at part.Number t k)
+  pub over : 2 ^ 32 ≤ value_on 0 (run_at part.Number t k)
 
 -- what a reading at byte i answers, and where it then stands, against the written form
 pub record Faithful {X A : Type 0} (write : X → List ℕ) (Good : X → Type 0) (value : X → ℕ → A) (t : List ℕ) (i : ℕ) (r : Result A LineFault) (j : ℕ) : Type 0 where

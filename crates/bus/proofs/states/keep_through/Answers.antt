@@ -10,8 +10,8 @@ use Rattle.caches.specs.Views.{caches_of}
 use Rattle.bus.proofs.Absent.{without}
 use Rattle.bus.proofs.states.keep_through.Goals as goal
 
-pub returns-else-is-valid : goal.returns-else-is-valid
-returns-else-is-valid g c =
+pub returns-else-is_valid : goal.returns-else-is_valid
+returns-else-is_valid g c =
     let cell = g.P.Protocol.cells c.args.protocol.now in
     let seat = c.args.seat in
     let line = c.args.line in

@@ -1,7 +1,7 @@
 use Rattle.std.proofs.Common.{arith}
 use Rattle.memory_tests.proofs.generic.words_in.Goals as goal
 
-pub overflow-mul-result : goal.overflow-mul-result
-overflow-mul-result g c =
+pub overflow_mul-result : goal.overflow_mul-result
+overflow_mul-result g c =
     let law = g.met.M.Memory.lawful c.args.memory.now in
     omega (arith, law.most, c.count.ensures)

@@ -6,7 +6,7 @@ use Rattle.report.proofs.step.write_records.Goals as goal
 pub loop-event-preserved : goal.loop-event-preserved
 loop-event-preserved c =
     joins-more record_text (string_bytes c.args.out.now) (string_bytes c.loop-event.out) (string_bytes c.write_record.new.out)
-    c.args.records.now c.loop-event.event-index _ c.loop-event-test.true c.loop-event.invariant c.in-ok-write-record.ensures
+    c.args.records.now c.loop-event.event-index _ c.loop-event-test.true c.loop-event.invariant c.in_ok-write_record.ensures
 
 pub returns : goal.returns
 returns c =

@@ -6,7 +6,7 @@ use Rattle.report.proofs.step.write_states.Goals as goal
 pub loop-state-preserved : goal.loop-state-preserved
 loop-state-preserved c =
     joins-more (λ s. letter s ∷ []) (string_bytes c.args.out.now) (string_bytes c.loop-state.out) (string_bytes c.write_state.new.out)
-    c.args.states.now c.loop-state.state-index _ c.loop-state-test.true c.loop-state.invariant c.in-ok-write-state.ensures
+    c.args.states.now c.loop-state.state-index _ c.loop-state-test.true c.loop-state.invariant c.in_ok-write_state.ensures
 
 pub returns : goal.returns
 returns c =

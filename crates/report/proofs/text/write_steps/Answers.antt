@@ -7,7 +7,7 @@ use Rattle.report.proofs.text.write_steps.Goals as goal
 pub loop-step-preserved : goal.loop-step-preserved
 loop-step-preserved c =
     joins-more (λ s. step_line (performed s)) (string_bytes c.args.out.now) (string_bytes c.loop-step.out) (string_bytes c.write_step.new.out)
-    c.args.steps.now c.loop-step.step-index _ c.loop-step-test.true c.loop-step.invariant c.in-ok-write-step.ensures
+    c.args.steps.now c.loop-step.step-index _ c.loop-step-test.true c.loop-step.invariant c.in_ok-write_step.ensures
 
 pub returns : goal.returns
 returns c =

@@ -5,10 +5,10 @@ use Rattle.trace.specs.Choices.{Unnamed}
 use Rattle.trace.proofs.Naming.{none-among, by_names}
 use Rattle.trace.proofs.names.published.Goals as goal
 
-pub returns-in-default : goal.returns-in-default
-returns-in-default c =
+pub returns-in_default : goal.returns-in_default
+returns-in_default c =
     let w = c.args.name.now in
-    let r = c.in-default in
+    let r = c.in_default in
     let h : Unnamed w =
     by_names w r.not-writethrough r.not-msi r.not-writeonce r.not-illinois r.not-berkeley r.not-dragon r.not-firefly
     in

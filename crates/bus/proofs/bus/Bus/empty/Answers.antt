@@ -24,11 +24,11 @@ returns-in-Some g c =
     record {
       obeys =
           named lines aside
-          (after lines aside c.let-go-event.ensures.obeys (counts lines aside one_displaced 1 c.let-go-event.new.self c.count_displaced.new.tally c.count_displaced.ensures.value c.count_displaced.ensures.most))
+          (after lines aside c.let_go-event.ensures.obeys (counts lines aside one_displaced 1 c.let_go-event.new.self c.count_displaced.new.tally c.count_displaced.ensures.value c.count_displaced.ensures.most))
           (λ es. ap (λ (v : ℕ). counting one_displaced (let_go seat v (machine_of lines es b))) (sym full.1) ∙ sym (emptied-full seat line (machine_of lines es b) full.0))
-          (append-nil (listed c.let-go-event.result)) (omega arith);
-      free = c.let-go-event.ensures.free found.stands.1 line (sym found.stands.0);
-      absent = stays-absent c.in-Some.other line seat (caches_of b.caches) (caches_of c.let-go-event.new.self.caches) c.let-go-event.ensures.gone found.stands.1 c.requires.absent;
+          (append-nil (listed c.let_go-event.result)) (omega arith);
+      free = c.let_go-event.ensures.free found.stands.1 line (sym found.stands.0);
+      absent = stays-absent c.in-Some.other line seat (caches_of b.caches) (caches_of c.let_go-event.new.self.caches) c.let_go-event.ensures.gone found.stands.1 c.requires.absent;
     }
 
 pub returns-in-None : goal.returns-in-None

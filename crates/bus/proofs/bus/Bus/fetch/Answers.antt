@@ -8,8 +8,8 @@ use Rattle.bus.proofs.Cases.{fetched-held, fetched-absent}
 use Rattle.bus.proofs.Obeying.{nothing, unlogged, renamed}
 use Rattle.bus.proofs.bus.Bus.fetch.Goals as goal
 
-pub returns-then-is-valid : goal.returns-then-is-valid
-returns-then-is-valid g c =
+pub returns-then-is_valid : goal.returns-then-is_valid
+returns-then-is_valid g c =
     let lines = g.M.Memory.lines in
     let aside = g.M.Memory.aside in
     let b = c.args.self.now in

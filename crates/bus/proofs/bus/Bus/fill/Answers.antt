@@ -19,8 +19,8 @@ returns g c =
     record {
       reaches =
           renamed lines aside
-          (onward lines aside (logged lines aside c.empty-gone.ensures.obeys c.log-if-made.ensures) (logged lines aside c.read-shared-read.ensures.obeys c.log.ensures))
+          (onward lines aside (logged lines aside c.empty-gone.ensures.obeys c.log_if-made.ensures) (logged lines aside c.read_shared-read.ensures.obeys c.log.ensures))
           (ap (λ (p : g.row.P.Denot). transact ReadShared seat line (read_shared (cells p) seat) (emptied seat line m)) c.empty-gone.ensures.obeys.stays.protocol)
           (omega (arith, listed-few c.empty-gone.result)) (omega arith);
-      held = c.read-shared-read.ensures.held;
+      held = c.read_shared-read.ensures.held;
     }

@@ -1,5 +1,5 @@
 use Rattle.std.proofs.Common.{take, ap, arith}
-use Rattle.rules.specs.Accesses.{filled, written_held_lem}
+use Rattle.rules.specs.Accesses.{filled, written_held}
 use Rattle.bus.specs.Machines.{machine_of}
 use Rattle.bus.proofs.Obeying.{onward, renamed}
 use Rattle.bus.proofs.bus.Bus.fill_then_write.Goals as goal
@@ -14,5 +14,5 @@ returns g c =
     let cells = g.P.Protocol.cells in
     let m = machine_of lines (take c.args.made c.args.records.now) b in
     renamed lines aside (onward lines aside c.fill-made.ensures.reaches c.write_held.ensures)
-    (ap (λ (p : g.row.P.Denot). written_held_lem (cells p) seat line c.args.word c.args.value (filled (cells b.protocol) seat line m)) c.fill-made.ensures.reaches.stays.protocol)
+    (ap (λ (p : g.row.P.Denot). written_held (cells p) seat line c.args.word c.args.value (filled (cells b.protocol) seat line m)) c.fill-made.ensures.reaches.stays.protocol)
     (omega arith) (omega arith)

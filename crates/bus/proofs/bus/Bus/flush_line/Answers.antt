@@ -11,8 +11,8 @@ use Rattle.bus.proofs.Cases.{flushed-held, flushed-absent}
 use Rattle.bus.proofs.Obeying.{after, counts, named, nothing}
 use Rattle.bus.proofs.bus.Bus.flush_line.Goals as goal
 
-pub returns-then-not-is-valid : goal.returns-then-not-is-valid
-returns-then-not-is-valid g c =
+pub returns-then-not-is_valid : goal.returns-then-not-is_valid
+returns-then-not-is_valid g c =
     let lines = g.M.Memory.lines in
     let aside = g.M.Memory.aside in
     let b = c.args.self.now in
@@ -26,6 +26,6 @@ returns g c =
     let b = c.args.self.now in
     let held : valid (state_at (copies_of c.args.line (caches_of b.caches)) c.args.seat) ≡ true = search rules in
     named lines aside
-    (after lines aside c.let-go-event.ensures.obeys (counts lines aside one_flushed 1 c.let-go-event.new.self c.count_flushed.new.tally c.count_flushed.ensures.value c.count_flushed.ensures.most))
+    (after lines aside c.let_go-event.ensures.obeys (counts lines aside one_flushed 1 c.let_go-event.new.self c.count_flushed.new.tally c.count_flushed.ensures.value c.count_flushed.ensures.most))
     (λ es. sym (flushed-held c.args.seat c.args.line (machine_of lines es b) held))
-    (append-nil (listed c.let-go-event.result)) (omega arith)
+    (append-nil (listed c.let_go-event.result)) (omega arith)

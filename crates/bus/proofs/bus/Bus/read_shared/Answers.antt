@@ -21,7 +21,7 @@ place-requires g c =
     let cell = g.P.Protocol.cells b.protocol in
     record {
       on = search rules;
-      held = c.after-read-state.ensures.held;
+      held = c.after_read-state.ensures.held;
       free =
           room_after b.caches c.args.line c.args.seat c.requires.on (λ k. heard_rs (cell k)) same
           (caches_of c.react-heeded.new.self) c.react-heeded.ensures.caches
@@ -46,10 +46,10 @@ returns g c =
     let cs₁ = caches_of c.react-heeded.new.self in
     let words : c.supply-words.result ≡ supplied xs (get_or ls line []) = c.supply-words.ensures ∙ told-words line seat cs ys c.requires.absent w a told (get_or ls line []) in
     let lone : not a.shared ≡ alone seat ys = ap not told.shared ∙ not-not (alone seat (set ys seat w)) ∙ alone-own seat ys w in
-    let state : c.after-read-state.result ≡ after_rs (cell seat) (alone seat ys) = c.after-read-state.ensures.value ∙ ap (after_rs (cell seat)) lone in
+    let state : c.after_read-state.result ≡ after_rs (cell seat) (alone seat ys) = c.after_read-state.ensures.value ∙ ap (after_rs (cell seat)) lone in
     let x = kept (after_rs (cell seat) (alone seat ys)) (supplied xs (get_or ls line [])) in
     let zs = set ys seat x in
-    let own : kept c.after-read-state.result c.supply-words.result ≡ x =
+    let own : kept c.after_read-state.result c.supply-words.result ≡ x =
     ap (λ (s : State). kept s c.supply-words.result) state ∙ ap (kept (after_rs (cell seat) (alone seat ys))) words in
     let event : Bool → Bool → Supplier → Record = λ s f p. record { transaction = ReadShared; seat = seat; line = line; shared = s; reflected = f; supplier = p } in
     let e = event a.shared a.reflected c.supplier.result in
@@ -82,7 +82,7 @@ returns g c =
       held =
           ap (λ (ws : List Copy). valid (state_at ws seat)) c.place.ensures.copies
           ∙ ap (λ (y : Copy). valid y.state)
-          (own-there b.caches line seat c.requires.on (λ k. heard_rs (cell k)) same (copies_of line cs₁) (kept c.after-read-state.result c.supply-words.result)
+          (own-there b.caches line seat c.requires.on (λ k. heard_rs (cell k)) same (copies_of line cs₁) (kept c.after_read-state.result c.supply-words.result)
           (copies-long c.react-heeded.new.self line ∙ c.react-heeded.ensures.seats))
-          ∙ c.after-read-state.ensures.held;
+          ∙ c.after_read-state.ensures.held;
     }

@@ -8,8 +8,8 @@ use Rattle.bus.specs.Machines.{machine_of}
 use Rattle.bus.proofs.Obeying.{named}
 use Rattle.bus.proofs.bus.Bus.save.Goals as goal
 
-pub returns-then-is-owned : goal.returns-then-is-owned
-returns-then-is-owned g c =
+pub returns-then-is_owned : goal.returns-then-is_owned
+returns-then-is_owned g c =
     let b = c.args.self.now in
     let seat = c.args.seat in
     let line = c.args.line in

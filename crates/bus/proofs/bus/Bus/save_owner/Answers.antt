@@ -8,8 +8,8 @@ use Rattle.bus.proofs.Obeying.{named, nothing}
 use Rattle.bus.proofs.Requests.{copies-long}
 use Rattle.bus.proofs.bus.Bus.save_owner.Goals as goal
 
-pub write-back-requires : goal.write-back-requires
-write-back-requires g c =
+pub write_back-requires : goal.write_back-requires
+write_back-requires g c =
     let b = c.args.self.now in
     let xs = copies_of c.args.line (caches_of b.caches) in
     let found = owner-there xs c.args.seat c.in-Some.owner c.in-Some.ensures in

@@ -9,8 +9,8 @@ use Rattle.bus.proofs.Cases.{written_held_lem, written-missed}
 use Rattle.bus.proofs.Obeying.{renamed}
 use Rattle.bus.proofs.bus.Bus.send.Goals as goal
 
-pub returns-then-is-valid : goal.returns-then-is-valid
-returns-then-is-valid g c =
+pub returns-then-is_valid : goal.returns-then-is_valid
+returns-then-is_valid g c =
     let lines = g.M.Memory.lines in
     let b = c.args.self.now in
     let m = machine_of lines (take 0 c.args.records.now) b in

@@ -12,8 +12,8 @@ loop-seat-init g c =
     let aside = g.M.Memory.aside in
     (settles-named lines aside (settles-none lines aside c.args.self.now) (λ es. refl) (omega arith), omega arith)
 
-pub settle-seat-written-requires : goal.settle-seat-written-requires
-settle-seat-written-requires g c =
+pub settle_seat-written-requires : goal.settle_seat-written-requires
+settle_seat-written-requires g c =
     let stays = c.loop-seat.invariant.0.obeys.stays in
     let few : c.args.self.now.caches.seats ≤ 8 = c.args.self.now.caches.few in
     record {
@@ -21,20 +21,20 @@ settle-seat-written-requires g c =
       room = omega (arith, stays.grown, c.requires, c.seats-seat-end.ensures, c.loop-seat-test.true);
     }
 
-pub overflow-add-written : goal.overflow-add-written
-overflow-add-written g c =
+pub overflow_add-written : goal.overflow_add-written
+overflow_add-written g c =
     let few : c.args.self.now.caches.seats ≤ 8 = c.args.self.now.caches.few in
-    omega (arith, c.loop-seat.invariant.1, c.settle-seat-written.ensures.few, c.seats-seat-end.ensures, c.loop-seat-test.true)
+    omega (arith, c.loop-seat.invariant.1, c.settle_seat-written.ensures.few, c.seats-seat-end.ensures, c.loop-seat-test.true)
 
 pub loop-seat-preserved : goal.loop-seat-preserved
 loop-seat-preserved g c =
     let lines = g.M.Memory.lines in
     let aside = g.M.Memory.aside in
     let seat = c.loop-seat.seat in (
-      settles-named lines aside (settles-after lines aside c.loop-seat.invariant.0 c.settle-seat-written.ensures.settles)
+      settles-named lines aside (settles-after lines aside c.loop-seat.invariant.0 c.settle_seat-written.ensures.settles)
           (λ es. ap (λ (n : ℕ). flushed_seats n (machine_of lines es c.args.self.now)) (sym (add-one seat)))
           (omega arith),
-      omega (arith, c.loop-seat.invariant.1, c.settle-seat-written.ensures.few),
+      omega (arith, c.loop-seat.invariant.1, c.settle_seat-written.ensures.few),
     )
 
 pub returns : goal.returns

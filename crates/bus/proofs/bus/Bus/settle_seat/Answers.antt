@@ -12,8 +12,8 @@ loop-at-init g c =
     let aside = g.M.Memory.aside in
     (settles-named lines aside (settles-none lines aside c.args.self.now) (λ es. refl) (omega arith), omega arith)
 
-pub settle-set-written-requires : goal.settle-set-written-requires
-settle-set-written-requires g c =
+pub settle_set-written-requires : goal.settle_set-written-requires
+settle_set-written-requires g c =
     let stays = c.loop-at.invariant.0.obeys.stays in
     let few : c.args.self.now.caches.sets ≤ 64 = c.args.self.now.caches.narrow in
     record {
@@ -22,20 +22,20 @@ settle-set-written-requires g c =
       room = omega (arith, stays.grown, c.requires.room, c.sets-at-end.ensures, c.loop-at-test.true);
     }
 
-pub overflow-add-written : goal.overflow-add-written
-overflow-add-written g c =
+pub overflow_add-written : goal.overflow_add-written
+overflow_add-written g c =
     let few : c.args.self.now.caches.sets ≤ 64 = c.args.self.now.caches.narrow in
-    omega (arith, c.loop-at.invariant.1, c.settle-set-written.ensures.few, c.sets-at-end.ensures, c.loop-at-test.true)
+    omega (arith, c.loop-at.invariant.1, c.settle_set-written.ensures.few, c.sets-at-end.ensures, c.loop-at-test.true)
 
 pub loop-at-preserved : goal.loop-at-preserved
 loop-at-preserved g c =
     let lines = g.M.Memory.lines in
     let aside = g.M.Memory.aside in
     let at = c.loop-at.at in (
-      settles-named lines aside (settles-after lines aside c.loop-at.invariant.0 c.settle-set-written.ensures.settles)
+      settles-named lines aside (settles-after lines aside c.loop-at.invariant.0 c.settle_set-written.ensures.settles)
           (λ es. ap (λ (n : ℕ). flushed_sets c.args.seat n (machine_of lines es c.args.self.now)) (sym (add-one at)))
           (omega arith),
-      omega (arith, c.loop-at.invariant.1, c.settle-set-written.ensures.few),
+      omega (arith, c.loop-at.invariant.1, c.settle_set-written.ensures.few),
     )
 
 pub returns : goal.returns

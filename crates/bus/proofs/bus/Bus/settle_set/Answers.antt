@@ -11,14 +11,14 @@ returns-in-Some g c =
     let b = c.args.self.now in
     record {
       settles = record {
-        told = listed c.flush-line-event.result;
+        told = listed c.flush_line-event.result;
         wrote = c.lines_written.ensures;
         obeys =
-            named lines g.M.Memory.aside c.flush-line-event.ensures
+            named lines g.M.Memory.aside c.flush_line-event.ensures
             (λ es. sym (flushed_set-lines c.args.seat c.args.at (machine_of lines es b) (c.in-Some.line ∷ []) (sym c.in-Some.ensures)))
             refl (omega arith);
       };
-      few = omega (arith, c.lines_written.ensures, listed-few c.flush-line-event.result);
+      few = omega (arith, c.lines_written.ensures, listed-few c.flush_line-event.result);
     }
 
 pub returns-in-None : goal.returns-in-None

@@ -48,7 +48,7 @@ returns g c =
     let cs₁ = caches_of c.react-heeded.new.self in
     let mine = copy-after b.caches line seat c.requires.on (λ k. heard_tu (cell k)) (λ v. set v c.args.word c.args.value) cs₁ c.react-heeded.ensures.caches c.react-heeded.ensures.copies in
     let lone : not a.shared ≡ alone seat ys = ap not told.shared ∙ not-not (alone seat (set ys seat w)) ∙ alone-own seat ys w in
-    let state : c.after-through-update-state.result ≡ (after_tu (cell seat) (alone seat ys) (state_at xs seat)) = c.after-through-update-state.ensures ∙ ap (λ (l : Bool). after_tu (cell seat) l c.state-old.result) lone ∙ ap (after_tu (cell seat) (alone seat ys)) c.state-old.ensures.value in
+    let state : c.after_through_update-state.result ≡ (after_tu (cell seat) (alone seat ys) (state_at xs seat)) = c.after_through_update-state.ensures ∙ ap (λ (l : Bool). after_tu (cell seat) l c.state-old.result) lone ∙ ap (after_tu (cell seat) (alone seat ys)) c.state-old.ensures.value in
     let x = kept (after_tu (cell seat) (alone seat ys) (state_at xs seat)) (set (words_at xs seat) word value) in
     let event : Bool → Record = λ s. record { transaction = ThroughUpdate; seat = seat; line = line; shared = s; reflected = false; supplier = Nobody } in
     record {

@@ -48,7 +48,7 @@ returns g c =
     let cs₁ = caches_of c.react-heeded.new.self in
     let mine = copy-after b.caches line seat c.requires.on (λ k. heard_up (cell k)) (λ v. set v c.args.word c.args.value) cs₁ c.react-heeded.ensures.caches c.react-heeded.ensures.copies in
     let lone : not a.shared ≡ alone seat ys = ap not told.shared ∙ not-not (alone seat (set ys seat w)) ∙ alone-own seat ys w in
-    let state : c.after-update-state.result ≡ (after_up (cell seat) (alone seat ys)) = c.after-update-state.ensures ∙ ap (after_up (cell seat)) lone in
+    let state : c.after_update-state.result ≡ (after_up (cell seat) (alone seat ys)) = c.after_update-state.ensures ∙ ap (after_up (cell seat)) lone in
     let x = kept (after_up (cell seat) (alone seat ys)) (set (words_at xs seat) word value) in
     let event : Bool → Record = λ s. record { transaction = Update; seat = seat; line = line; shared = s; reflected = false; supplier = Nobody } in
     record {

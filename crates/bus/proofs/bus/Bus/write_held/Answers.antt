@@ -82,7 +82,7 @@ returns-in-Some-ThroughUpdate g c =
     let state = state_at (copies_of line (caches_of b.caches)) seat in
     let told = c.in-Some-ThroughUpdate.ensures in
     let choice : chosen (cells seat) state ≡ Some ThroughUpdate = cc in
-    renamed lines aside (logged lines aside c.through-update-sent.ensures c.log-in-Some-ThroughUpdate.ensures)
+    renamed lines aside (logged lines aside c.through_update-sent.ensures c.log-in-Some-ThroughUpdate.ensures)
     (sym (sent-by cells law seat line word value m state ThroughUpdate c.requires.held choice) ∙ sym (written_held-at cells seat line word value m state refl))
     (omega arith) (omega arith)
 

@@ -18,7 +18,7 @@ returns g c =
     let cells = g.P.Protocol.cells in
     let m = machine_of lines (take c.args.made c.args.records.now) b in
     renamed lines aside
-    (onward lines aside (logged lines aside c.save-owner-saved.ensures c.log-if-made.ensures) (logged lines aside c.through-invalidate-sent.ensures c.log.ensures))
-    (ap (λ (p : g.row.P.Denot). transact ThroughInvalidate seat line (through_invalidate (cells p) seat c.args.word c.args.value) (saved_from seat line m)) c.save-owner-saved.ensures.stays.protocol
+    (onward lines aside (logged lines aside c.save_owner-saved.ensures c.log_if-made.ensures) (logged lines aside c.through_invalidate-sent.ensures c.log.ensures))
+    (ap (λ (p : g.row.P.Denot). transact ThroughInvalidate seat line (through_invalidate (cells p) seat c.args.word c.args.value) (saved_from seat line m)) c.save_owner-saved.ensures.stays.protocol
     ∙ sym (through-is (cells b.protocol) seat line c.args.word c.args.value m))
-    (omega (arith, listed-few c.save-owner-saved.result)) (omega arith)
+    (omega (arith, listed-few c.save_owner-saved.result)) (omega arith)

@@ -12,8 +12,8 @@ pub invariant_of-self : goal.invariant_of-self
 invariant_of-self c =
     let s = c.args.self.now in
     let k = c.args.seat in
-    let i = c.place-of-at.result in
-    let at = c.place-of-at.ensures in
+    let i = c.place_of-at.result in
+    let at = c.place_of-at.ensures in
     let p = get_or (get_or s.table k []) i blank in
     let q : CacheLine = record { state = Invalid; tag = p.tag; words = p.words } in
     let b = bounds s k c.requires i at.below q (λ _. own_home s k c.requires c.args.line i at.place q c.if-self-seat.true) in
@@ -24,8 +24,8 @@ unfolding caches_of
 returns-then-self-seat c =
     let s = c.args.self.now in
     let k = c.args.seat in
-    let i = c.place-of-at.result in
-    let here = c.place-of-at.ensures.place in
+    let i = c.place_of-at.result in
+    let here = c.place_of-at.ensures.place in
     let p = get_or (get_or s.table k []) i blank in
     let q : CacheLine = record { state = Invalid; tag = p.tag; words = p.words } in
     let t = let_go s k c.requires c.args.line i here c.if-self-seat.true in
@@ -41,8 +41,8 @@ pub returns-else-self-seat : goal.returns-else-self-seat
 returns-else-self-seat c =
     let s = c.args.self.now in
     let k = c.args.seat in
-    let i = c.place-of-at.result in
-    let here = c.place-of-at.ensures.place in
+    let i = c.place_of-at.result in
+    let here = c.place_of-at.ensures.place in
     let t = not_there s k c.requires c.args.line i here c.if-self-seat.false in
     record {
       caches = t.caches;

@@ -18,8 +18,8 @@ invariant_of-self g c =
     let s = c.args.self.now in
     let k = c.args.seat in
     let n = c.args.line in
-    let i = c.place-of-at.result in
-    let at = c.place-of-at.ensures in
+    let i = c.place_of-at.result in
+    let at = c.place_of-at.ensures in
     let q = c.snoop-after.new.self in
     let held = ap valid (state-at s k c.requires.on n) ∙ c.requires.held in
     let b =
@@ -33,10 +33,10 @@ note-requires g c =
     let s = c.args.self.now in
     let k = c.args.seat in
     let n = c.args.line in
-    let i = c.place-of-at.result in
+    let i = c.place_of-at.result in
     let p = get_or (get_or s.table k []) i blank in
     let held = ap valid (state-at s k c.requires.on n) ∙ c.requires.held in
-    let stands = held-stands s k c.requires.on n i c.place-of-at.ensures.place held in
+    let stands = held-stands s k c.requires.on n i c.place_of-at.ensures.place held in
     record { held = (and_parts (eqb p.tag n) (valid p.state) stands).1; few = c.requires.few }
 
 pub returns : goal.returns
@@ -45,8 +45,8 @@ returns g c =
     let s = c.args.self.now in
     let k = c.args.seat in
     let n = c.args.line in
-    let i = c.place-of-at.result in
-    let here = c.place-of-at.ensures.place in
+    let i = c.place_of-at.result in
+    let here = c.place_of-at.ensures.place in
     let p = get_or (get_or s.table k []) i blank in
     let q = c.snoop-after.new.self in
     let cell = g.P.Protocol.cells c.args.protocol.now k in

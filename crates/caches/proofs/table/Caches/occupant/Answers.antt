@@ -5,16 +5,16 @@ use Rattle.rules.specs.Caches.{room, victim}
 use Rattle.caches.specs.Views.{caches_of}
 use Rattle.caches.proofs.Finds.{room-here, room-empty, room-none, victim-tag, occupant-home, occupant-held}
 use Rattle.caches.proofs.table.Caches.occupant.Goals as goal
-use Rattle.caches.proofs.table.Caches.occupant.Goals.{else-tag-line-via-then-tag-line+else-is-valid, else-tag-line-via-else-tag-line}
+use Rattle.caches.proofs.table.Caches.occupant.Goals.{else-tag-line-via-then-tag-line+else-is_valid, else-tag-line-via-else-tag-line}
 
-pub returns-then-is-valid : goal.returns-then-is-valid
-returns-then-is-valid c =
+pub returns-then-is_valid : goal.returns-then-is_valid
+returns-then-is_valid c =
     let s = c.args.self.now in
     let k = c.args.seat in
     let n = c.args.line in
-    let i = c.place-of-at.result in
-    let here = c.place-of-at.ensures.place in
-    let v = sym c.is_valid.ensures ∙ c.if-is-valid.true in
+    let i = c.place_of-at.result in
+    let here = c.place_of-at.ensures.place in
+    let v = sym c.is_valid.ensures ∙ c.if-is_valid.true in
     record {
       answer = ap Some (sym (victim-tag s k c.requires n i here))
           ∙ sym (cond-false (room (get_or (caches_of s) k []) n) None (Some (victim (get_or (caches_of s) k []) n)) (room-none s k c.requires n i here c.if-tag-line.true v));
@@ -26,11 +26,11 @@ returns-else-tag-line c =
     let s = c.args.self.now in
     let k = c.args.seat in
     let n = c.args.line in
-    let i = c.place-of-at.result in
-    let here = c.place-of-at.ensures.place in
+    let i = c.place_of-at.result in
+    let here = c.place_of-at.ensures.place in
     let free : room (get_or (caches_of s) k []) n ≡ true =
     elim c.else-tag-line.branch [
-      | else-tag-line-via-then-tag-line+else-is-valid w ↦ room-empty s k c.requires n i here (sym w.is_valid.ensures ∙ w.if-is-valid.false)
+      | else-tag-line-via-then-tag-line+else-is_valid w ↦ room-empty s k c.requires n i here (sym w.is_valid.ensures ∙ w.if-is_valid.false)
       | else-tag-line-via-else-tag-line w ↦ room-here s k c.requires n i here w.if-tag-line.false
     ]
     in

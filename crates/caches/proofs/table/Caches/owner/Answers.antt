@@ -4,13 +4,13 @@ use Rattle.protocol.specs.States.{owned}
 use Rattle.rules.specs.Columns.{state_at}
 use Rattle.caches.proofs.Searches.{others, passed, skipped, owner_here, owner-next, owner-past}
 use Rattle.caches.proofs.table.Caches.owner.Goals as goal
-use Rattle.caches.proofs.table.Caches.owner.Goals.{else-seat-requester-via-then-seat-requester+else-is-owned, else-seat-requester-via-else-seat-requester}
+use Rattle.caches.proofs.table.Caches.owner.Goals.{else-seat-requester-via-then-seat-requester+else-is_owned, else-seat-requester-via-else-seat-requester}
 
 pub loop-seat-init : goal.loop-seat-init
 loop-seat-init c = refl
 
-pub returns-then-is-owned : goal.returns-then-is-owned
-returns-then-is-owned c =
+pub returns-then-is_owned : goal.returns-then-is_owned
+returns-then-is_owned c =
     let s = c.args.self.now in
     let r = c.args.requester in
     let n = c.args.line in
@@ -18,7 +18,7 @@ returns-then-is-owned c =
     sym
     (c.loop-seat.invariant
     ∙ owner_here s r n k c.loop-seat-test.true
-    (passed s r n k owned c.if-seat-requester.true c.state.result c.state.ensures.value ∙ sym c.is_owned.ensures ∙ c.if-is-owned.true))
+    (passed s r n k owned c.if-seat-requester.true c.state.result c.state.ensures.value ∙ sym c.is_owned.ensures ∙ c.if-is_owned.true))
 
 pub loop-seat-preserved : goal.loop-seat-preserved
 loop-seat-preserved c =
@@ -28,8 +28,8 @@ loop-seat-preserved c =
     let k = c.loop-seat.seat in
     let not-owned : owned (state_at (others s r n) k) ≡ false =
     elim c.else-seat-requester.branch [
-      | else-seat-requester-via-then-seat-requester+else-is-owned w ↦
-          passed s r n k owned w.if-seat-requester.true w.state.result w.state.ensures.value ∙ sym w.is_owned.ensures ∙ w.if-is-owned.false
+      | else-seat-requester-via-then-seat-requester+else-is_owned w ↦
+          passed s r n k owned w.if-seat-requester.true w.state.result w.state.ensures.value ∙ sym w.is_owned.ensures ∙ w.if-is_owned.false
       | else-seat-requester-via-else-seat-requester w ↦ skipped s r n k owned refl w.if-seat-requester.false
     ]
     in

@@ -6,13 +6,13 @@ use Rattle.rules.specs.Machines.{copies_of}
 use Rattle.caches.specs.Views.{caches_of}
 use Rattle.caches.proofs.Searches.{others, passed, skipped, some-here, some_next, some-past, not-alone}
 use Rattle.caches.proofs.table.Caches.shared.Goals as goal
-use Rattle.caches.proofs.table.Caches.shared.Goals.{else-other-seat-via-then-other-seat+else-is-valid, else-other-seat-via-else-other-seat}
+use Rattle.caches.proofs.table.Caches.shared.Goals.{else-other-seat-via-then-other-seat+else-is_valid, else-other-seat-via-else-other-seat}
 
 pub loop-other-init : goal.loop-other-init
 loop-other-init c = refl
 
-pub returns-then-is-valid : goal.returns-then-is-valid
-returns-then-is-valid c =
+pub returns-then-is_valid : goal.returns-then-is_valid
+returns-then-is_valid c =
     let s = c.args.self.now in
     let r = c.args.seat in
     let n = c.args.line in
@@ -20,7 +20,7 @@ returns-then-is-valid c =
     not-alone r (copies_of n (caches_of s)) true
     (c.loop-other.invariant
     ∙ some-here s r n k c.loop-other-test.true
-    (passed s r n k valid c.if-other-seat.true c.state.result c.state.ensures.value ∙ sym c.is_valid.ensures ∙ c.if-is-valid.true))
+    (passed s r n k valid c.if-other-seat.true c.state.result c.state.ensures.value ∙ sym c.is_valid.ensures ∙ c.if-is_valid.true))
 
 pub loop-other-preserved : goal.loop-other-preserved
 loop-other-preserved c =
@@ -30,8 +30,8 @@ loop-other-preserved c =
     let k = c.loop-other.other in
     let not-held : valid (state_at (others s r n) k) ≡ false =
     elim c.else-other-seat.branch [
-      | else-other-seat-via-then-other-seat+else-is-valid w ↦
-          passed s r n k valid w.if-other-seat.true w.state.result w.state.ensures.value ∙ sym w.is_valid.ensures ∙ w.if-is-valid.false
+      | else-other-seat-via-then-other-seat+else-is_valid w ↦
+          passed s r n k valid w.if-other-seat.true w.state.result w.state.ensures.value ∙ sym w.is_valid.ensures ∙ w.if-is_valid.false
       | else-other-seat-via-else-other-seat w ↦ skipped s r n k valid refl w.if-other-seat.false
     ]
     in

@@ -8,8 +8,8 @@ pub invariant_of-self : goal.invariant_of-self
 invariant_of-self c =
     let s = c.args.self.now in
     let k = c.args.seat in
-    let i = c.place-of-at.result in
-    let at = c.place-of-at.ensures in
+    let i = c.place_of-at.result in
+    let at = c.place_of-at.ensures in
     let q = c.take.new.self in
     let b =
     bounds s k c.requires.on i at.below q
@@ -22,7 +22,7 @@ unfolding caches_of
 returns c =
     let s = c.args.self.now in
     let p =
-    rewritten s c.args.seat c.requires.on c.args.line c.place-of-at.result c.place-of-at.ensures.place c.take.new.self c.args.state c.args.word
+    rewritten s c.args.seat c.requires.on c.args.line c.place_of-at.result c.place_of-at.ensures.place c.take.new.self c.args.state c.args.word
     c.args.value c.requires.held c.take.ensures.tag c.take.ensures.state c.take.ensures.words
     in
     record { caches = p.caches; copies = p.copies; seats = refl; sets = refl }

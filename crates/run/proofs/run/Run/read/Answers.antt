@@ -16,17 +16,17 @@ use Rattle.run.proofs.Filling.{made-long}
 use Rattle.run.proofs.Answering.{refused-call, access-call}
 use Rattle.run.proofs.run.Run.read.Goals as goal
 
-pub returns-in-err-check : goal.returns-in-err-check
-returns-in-err-check g c =
+pub returns-in_err-check : goal.returns-in_err-check
+returns-in_err-check g c =
     let p = err_from_is_err_and c.from-residual.result c.from-residual.ensures.1 in
     rw (p.1, p.2)
     (refused-call g.P.Protocol.cells g.M.Memory.lines g.M.Memory.aside (Read c.args.seat c.args.address (length c.args.records.now))
-    c.args.self.now c.args.records.now c.in-err-check.field-0.0 c.in-err-check.ensures)
+    c.args.self.now c.args.records.now c.in_err-check.field-0.0 c.in_err-check.ensures)
 
 pub read-answer-requires : goal.read-answer-requires
 read-answer-requires g c =
     let s = system_of g.P.Protocol.cells g.M.Memory.lines c.args.self.now in
-    let e = c.in-ok-check.ensures.0 in
+    let e = c.in_ok-check.ensures.0 in
     let n = calls-left s c.args.seat c.args.address (length c.args.records.now) e in
     let on = seat-on s c.args.seat c.args.address (length c.args.records.now) e in
     let few : total c.args.self.now.bus.tally ≤ 2048 * c.args.self.now.calls = c.args.self.now.counted in
@@ -41,7 +41,7 @@ read-answer-requires g c =
 pub returns : goal.returns
 returns g c =
     let s = system_of g.P.Protocol.cells g.M.Memory.lines c.args.self.now in
-    let e = c.in-ok-check.ensures.0 in
+    let e = c.in_ok-check.ensures.0 in
     let enough = places-enough s c.args.seat c.args.address (length c.args.records.now) e in
     let few : c.read-answer.result.made ≤ length c.read-answer.new.records = omega (arith, enough, c.read-answer.ensures.reaches.few, c.read-answer.auto.records) in
     access-call g.P.Protocol.cells g.M.Memory.lines g.M.Memory.aside (Read c.args.seat c.args.address (length c.args.records.now)) c.args.self.now _

@@ -14,17 +14,17 @@ use Rattle.run.proofs.Filling.{made-long}
 use Rattle.run.proofs.Answering.{refused-call, access-call}
 use Rattle.run.proofs.run.Run.write.Goals as goal
 
-pub returns-in-err-check : goal.returns-in-err-check
-returns-in-err-check g c =
+pub returns-in_err-check : goal.returns-in_err-check
+returns-in_err-check g c =
     let p = err_from_is_err_and c.from-residual.result c.from-residual.ensures.1 in
     rw (p.1, p.2)
     (refused-call g.P.Protocol.cells g.M.Memory.lines g.M.Memory.aside (Write c.args.seat c.args.address c.args.value (length c.args.records.now))
-    c.args.self.now c.args.records.now c.in-err-check.field-0.0 c.in-err-check.ensures)
+    c.args.self.now c.args.records.now c.in_err-check.field-0.0 c.in_err-check.ensures)
 
 pub write-answer-requires : goal.write-answer-requires
 write-answer-requires g c =
     let s = system_of g.P.Protocol.cells g.M.Memory.lines c.args.self.now in
-    let e = c.in-ok-check.ensures.0 in
+    let e = c.in_ok-check.ensures.0 in
     let n = calls-left s c.args.seat c.args.address (length c.args.records.now) e in
     let on = seat-on s c.args.seat c.args.address (length c.args.records.now) e in
     let few : total c.args.self.now.bus.tally ≤ 2048 * c.args.self.now.calls = c.args.self.now.counted in
@@ -39,7 +39,7 @@ write-answer-requires g c =
 pub returns : goal.returns
 returns g c =
     let s = system_of g.P.Protocol.cells g.M.Memory.lines c.args.self.now in
-    let e = c.in-ok-check.ensures.0 in
+    let e = c.in_ok-check.ensures.0 in
     let enough = places-enough s c.args.seat c.args.address (length c.args.records.now) e in
     let few : c.write-answer.result.made ≤ length c.write-answer.new.records = omega (arith, enough, c.write-answer.ensures.reaches.few, c.write-answer.auto.records) in
     access-call g.P.Protocol.cells g.M.Memory.lines g.M.Memory.aside (Write c.args.seat c.args.address c.args.value (length c.args.records.now)) c.args.self.now _

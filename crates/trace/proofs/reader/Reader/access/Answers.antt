@@ -6,19 +6,19 @@ use Rattle.trace.proofs.Accessing.{access-grammar}
 use Rattle.trace.proofs.Keeping.{keeps-faith}
 use Rattle.trace.proofs.reader.Reader.access.Goals as goal
 
-pub returns-in-err-access : goal.returns-in-err-access
-returns-in-err-access c =
+pub returns-in_err-access : goal.returns-in_err-access
+returns-in_err-access c =
     let p = err_from_is_err_and c.from-residual.result c.from-residual.ensures.1 in
     let t = c.args.self.now.text.now in
     let i = c.args.self.now.at in
-    let h = reads-err (access_at t i) i i c.from-residual.result c.in-err-access.field-0.0 (p.1 ∙ ap Err p.2) c.in-err-access.ensures.comes refl in
+    let h = reads-err (access_at t i) i i c.from-residual.result c.in_err-access.field-0.0 (p.1 ∙ ap Err p.2) c.in_err-access.ensures.comes refl in
     record { reads = h; faithful = keeps-faith access-grammar t i c.args.self.now.within c.from-residual.result i h; text = refl }
 
 pub returns : goal.returns
 returns c =
-    let h = c.in-ok-access.ensures.comes in
+    let h = c.in_ok-access.ensures.comes in
     record {
       reads = h;
-      faithful = keeps-faith access-grammar c.args.self.now.text.now c.args.self.now.at c.args.self.now.within (Ok c.in-ok-access.access) c.access_line.new.self.at h;
-      text = c.in-ok-access.ensures.text;
+      faithful = keeps-faith access-grammar c.args.self.now.text.now c.args.self.now.at c.args.self.now.within (Ok c.in_ok-access.access) c.access_line.new.self.at h;
+      text = c.in_ok-access.ensures.text;
     }

@@ -3,16 +3,16 @@ use Rattle.std.proofs.lemmas.Result.{err_from_is_err_and}
 use Rattle.trace.proofs.Wholes.{goes_on, access-laws, followed_on, next-some, next-none, counted-all, counted-fault}
 use Rattle.trace.proofs.reader.Reader.count_accesses.Goals as goal
 
-pub returns-in-err-next-access : goal.returns-in-err-next-access
-returns-in-err-next-access c =
+pub returns-in_err-next_access : goal.returns-in_err-next_access
+returns-in_err-next_access c =
     let p = err_from_is_err_and c.from-residual.result c.from-residual.ensures.1 in
     let t = c.args.self.now.text.now in
     let i = c.args.self.now.at in
     let a = c.loop-count.ahead in
     record {
       counted =
-          counted-fault a.text.now t i a.at c.next_access.new.self.at c.loop-count.count c.from-residual.result c.in-err-next-access.field-0.0
-          c.loop-count.invariant.0 (p.1 ∙ ap Err p.2) c.in-err-next-access.ensures.reads c.loop-count.invariant.2;
+          counted-fault a.text.now t i a.at c.next_access.new.self.at c.loop-count.count c.from-residual.result c.in_err-next_access.field-0.0
+          c.loop-count.invariant.0 (p.1 ∙ ap Err p.2) c.in_err-next_access.ensures.reads c.loop-count.invariant.2;
       laws = access-laws t i c.args.self.now.within;
     }
 
@@ -20,7 +20,7 @@ pub loop-count-smaller : goal.loop-count-smaller
 loop-count-smaller c =
     let t = c.args.self.now.text.now in
     let a = c.loop-count.ahead in
-    let x = next-some a.text.now t a.at c.next_access.new.self.at c.in-ok-next-access.field-0 c.in-Some.field-0 c.loop-count.invariant.0 c.in-Some.is c.in-ok-next-access.ensures.reads in
+    let x = next-some a.text.now t a.at c.next_access.new.self.at c.in_ok-next_access.field-0 c.in-Some.field-0 c.loop-count.invariant.0 c.in-Some.is c.in_ok-next_access.ensures.reads in
     let y = goes_on t a.at c.next_access.new.self.at c.in-Some.field-0 (omega (arith, x.0)) x.1 in
     omega (arith, x.0, y.0, y.1)
 
@@ -28,9 +28,9 @@ pub loop-count-preserved : goal.loop-count-preserved
 loop-count-preserved c =
     let t = c.args.self.now.text.now in
     let a = c.loop-count.ahead in
-    let x = next-some a.text.now t a.at c.next_access.new.self.at c.in-ok-next-access.field-0 c.in-Some.field-0 c.loop-count.invariant.0 c.in-Some.is c.in-ok-next-access.ensures.reads in
+    let x = next-some a.text.now t a.at c.next_access.new.self.at c.in_ok-next_access.field-0 c.in-Some.field-0 c.loop-count.invariant.0 c.in-Some.is c.in_ok-next_access.ensures.reads in
     let y = goes_on t a.at c.next_access.new.self.at c.in-Some.field-0 (omega (arith, x.0)) x.1 in (
-      c.in-ok-next-access.ensures.text ∙ c.loop-count.invariant.0,
+      c.in_ok-next_access.ensures.text ∙ c.loop-count.invariant.0,
       omega (arith, y.0, c.loop-count.invariant.1),
       followed_on t c.args.self.now.at a.at c.next_access.new.self.at c.loop-count.count c.in-Some.field-0 x.0 x.1 c.loop-count.invariant.2,
     )
@@ -40,5 +40,5 @@ returns c =
     let t = c.args.self.now.text.now in
     let i = c.args.self.now.at in
     let a = c.loop-count.ahead in
-    let e = next-none a.text.now t a.at c.next_access.new.self.at c.in-ok-next-access.field-0 c.loop-count.invariant.0 c.in-default.is c.in-ok-next-access.ensures.reads in
+    let e = next-none a.text.now t a.at c.next_access.new.self.at c.in_ok-next_access.field-0 c.loop-count.invariant.0 c.in_default.is c.in_ok-next_access.ensures.reads in
     record { counted = counted-all t i a.at c.loop-count.count c.loop-count.invariant.2 e; laws = access-laws t i c.args.self.now.within }

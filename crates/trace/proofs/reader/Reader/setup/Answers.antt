@@ -7,20 +7,20 @@ use Rattle.trace.proofs.reader.Reader.setup.Goals as goal
 
 pub checked-requires : goal.checked-requires
 checked-requires c =
-    let p = words_inside c.args.self.now.text.now c.args.self.now.at c.in-ok-line.line c.bus_line.new.self.at c.args.self.now.within c.in-ok-line.ensures.reads in
+    let p = words_inside c.args.self.now.text.now c.args.self.now.at c.in_ok-line.line c.bus_line.new.self.at c.args.self.now.within c.in_ok-line.ensures.reads in
     record { first = p.0; second = p.1 }
 
-pub returns-in-err-setup : goal.returns-in-err-setup
-returns-in-err-setup c =
-    let p = err_from_is_err_and c.from-residual-in-err-setup.result c.from-residual-in-err-setup.ensures.1 in
+pub returns-in_err-setup : goal.returns-in_err-setup
+returns-in_err-setup c =
+    let p = err_from_is_err_and c.from-residual-in_err-setup.result c.from-residual-in_err-setup.ensures.1 in
     let t = c.args.self.now.text.now in
     let i = c.args.self.now.at in
-    let f = c.in-err-setup.field-0.0 in
+    let f = c.in_err-setup.field-0.0 in
     let e = p.1 ∙ ap Err p.2 in
-    let o = open-line t i c.in-ok-line.line c.bus_line.new.self.at (omega arith) c.in-ok-line.ensures.reads in
+    let o = open-line t i c.in_ok-line.line c.bus_line.new.self.at (omega arith) c.in_ok-line.ensures.reads in
     record {
-      settled = settled-err (open_stop t i) (Opened t i i) c.from-residual-in-err-setup.result f e (o ∙ c.in-err-setup.ensures);
-      held = held-err (i ≡ i) c.from-residual-in-err-setup.result f e refl;
+      settled = settled-err (open_stop t i) (Opened t i i) c.from-residual-in_err-setup.result f e (o ∙ c.in_err-setup.ensures);
+      held = held-err (i ≡ i) c.from-residual-in_err-setup.result f e refl;
       text = refl;
     }
 
@@ -28,11 +28,11 @@ pub returns : goal.returns
 returns c =
     let t = c.args.self.now.text.now in
     let i = c.args.self.now.at in
-    let h = c.in-ok-line.ensures in
-    let s = c.in-ok-setup.ensures in
-    let o = open-line t i c.in-ok-line.line c.bus_line.new.self.at (omega arith) h.reads in
+    let h = c.in_ok-line.ensures in
+    let s = c.in_ok-setup.ensures in
+    let o = open-line t i c.in_ok-line.line c.bus_line.new.self.at (omega arith) h.reads in
     record {
-      settled = (o ∙ s.0, record { line = c.in-ok-line.line; reads = h.reads; given = s.1 });
+      settled = (o ∙ s.0, record { line = c.in_ok-line.line; reads = h.reads; given = s.1 });
       held = tt;
       text = h.text;
     }

@@ -7,4 +7,4 @@ returns-then-end-start c =
     record { reads = (word_none c.args.self.now.text.now c.args.self.now.at (omega arith), refl); text = refl }
 
 pub returns : goal.returns
-returns c = record { reads = word_some c.args.self.now.text.now c.args.self.now.at c.run-end-end.result c.run-end-end.ensures.value (λ e. c.if-end-start.false e); text = refl }
+returns c = record { reads = word_some c.args.self.now.text.now c.args.self.now.at c.run_end-end.result c.run_end-end.ensures.value (λ e. c.if-end-start.false e); text = refl }
