@@ -23,7 +23,7 @@ pub enum Heard {
 
 /// The state that a seat's cell names.
 pub fn cell_state<P: Protocol>(protocol: &P, seat: usize, cell: u8) -> State
-    ensures { result ≡ state_of (cells protocol.now seat cell) }
+    ensures { result ≡ state_of (P.cells protocol.now seat cell) }
 {
     State::from_letter(protocol.cell(seat, cell)).unwrap_or(State::Invalid)
 }

@@ -18,7 +18,7 @@ impl CacheLine {
     /// The copy changes by its own state and the transaction heard together; the answer is its state then.
     pub fn snoop<P: Protocol>(&mut self, protocol: &P, seat: usize, heard: Heard) -> State
         requires { Within heard }
-        ensures copy { copy_of self.new ≡ reaction (cells protocol.now seat) heard (copy_of self.old) }
+        ensures copy { copy_of self.new ≡ reaction (P.cells protocol.now seat) heard (copy_of self.old) }
         ensures tag { self.new.tag ≡ self.old.tag }
         ensures state { result ≡ self.new.state }
     {

@@ -27,8 +27,8 @@ impl Caches {
         requires within { Within heard }
         requires held { valid (look (slice_index_or (caches_of self.old) seat []) line).state ≡ true }
         requires few { heeded.old.lost + 1 < 2 ^ 32 }
-        ensures caches { caches_of self.new ≡ slice_set (caches_of self.old) seat (put line (slice_index_or (caches_of self.old) seat []) (reaction (cells protocol.now seat) heard (look (slice_index_or (caches_of self.old) seat []) line))) }
-        ensures noted { heeded.new ≡ noted seat (look (slice_index_or (caches_of self.old) seat []) line) (reaction (cells protocol.now seat) heard (look (slice_index_or (caches_of self.old) seat []) line)).state heeded.old }
+        ensures caches { caches_of self.new ≡ slice_set (caches_of self.old) seat (put line (slice_index_or (caches_of self.old) seat []) (reaction (P.cells protocol.now seat) heard (look (slice_index_or (caches_of self.old) seat []) line))) }
+        ensures noted { heeded.new ≡ noted seat (look (slice_index_or (caches_of self.old) seat []) line) (reaction (P.cells protocol.now seat) heard (look (slice_index_or (caches_of self.old) seat []) line)).state heeded.old }
         ensures seats { self.new.seats ≡ self.old.seats }
         ensures sets { self.new.sets ≡ self.old.sets }
     {
@@ -50,8 +50,8 @@ impl Caches {
         requires on { seat < self.old.seats }
         requires within { Within heard }
         requires few { heeded.old.lost + 1 < 2 ^ 32 }
-        ensures caches { caches_of self.new ≡ slice_set (caches_of self.old) seat (put line (slice_index_or (caches_of self.old) seat []) (reaction (cells protocol.now seat) heard (look (slice_index_or (caches_of self.old) seat []) line))) }
-        ensures noted { heeded.new ≡ noted seat (look (slice_index_or (caches_of self.old) seat []) line) (reaction (cells protocol.now seat) heard (look (slice_index_or (caches_of self.old) seat []) line)).state heeded.old }
+        ensures caches { caches_of self.new ≡ slice_set (caches_of self.old) seat (put line (slice_index_or (caches_of self.old) seat []) (reaction (P.cells protocol.now seat) heard (look (slice_index_or (caches_of self.old) seat []) line))) }
+        ensures noted { heeded.new ≡ noted seat (look (slice_index_or (caches_of self.old) seat []) line) (reaction (P.cells protocol.now seat) heard (look (slice_index_or (caches_of self.old) seat []) line)).state heeded.old }
         ensures seats { self.new.seats ≡ self.old.seats }
         ensures sets { self.new.sets ≡ self.old.sets }
     {
@@ -71,9 +71,9 @@ impl Caches {
     ) -> Heeded
         requires on { requester < self.old.seats }
         requires within { Within heard }
-        ensures caches { caches_of self.new ≡ put_each line (caches_of self.old) (heard_by (cells protocol.now) heard requester (copies_of line (caches_of self.old))) }
-        ensures copies { copies_of line (caches_of self.new) ≡ heard_by (cells protocol.now) heard requester (copies_of line (caches_of self.old)) }
-        ensures answer { Heeds requester (copies_of line (caches_of self.old)) (heard_by (cells protocol.now) heard requester (copies_of line (caches_of self.old))) result }
+        ensures caches { caches_of self.new ≡ put_each line (caches_of self.old) (heard_by (P.cells protocol.now) heard requester (copies_of line (caches_of self.old))) }
+        ensures copies { copies_of line (caches_of self.new) ≡ heard_by (P.cells protocol.now) heard requester (copies_of line (caches_of self.old)) }
+        ensures answer { Heeds requester (copies_of line (caches_of self.old)) (heard_by (P.cells protocol.now) heard requester (copies_of line (caches_of self.old))) result }
         ensures seats { self.new.seats ≡ self.old.seats }
         ensures sets { self.new.sets ≡ self.old.sets }
     {
