@@ -6,7 +6,7 @@ use protocol::{Protocol, State, Transaction};
 
 /// The byte that decides a write: cell 0 at Invalid, 1 at Shared, 2 at Owned; an exclusive copy asks no cell.
 fn code_at<P: Protocol>(protocol: &P, seat: usize, state: State) -> u8
-    ensures { result ≡ code_at (cells protocol.now seat) state }
+    ensures { result ≡ code_at (P.cells protocol.now seat) state }
 {
     match state {
         State::Invalid => protocol.cell(seat, 0),
@@ -18,7 +18,7 @@ fn code_at<P: Protocol>(protocol: &P, seat: usize, state: State) -> u8
 
 /// The transaction of a write by a seat whose copy is in this state: none where the copy is exclusive.
 pub fn choose<P: Protocol>(protocol: &P, seat: usize, state: State) -> Option<Transaction>
-    ensures { result ≡ chosen (cells protocol.now seat) state }
+    ensures { result ≡ chosen (P.cells protocol.now seat) state }
 {
     match (state, code_at(protocol, seat, state)) {
         (State::Exclusive | State::Modified, _) => None,

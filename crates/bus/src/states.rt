@@ -11,7 +11,7 @@ use protocol::{Protocol, State, filled_alone};
 
 /// After a read shared: cell 3 when alone.
 pub fn after_read<P: Protocol>(protocol: &P, seat: usize, alone: bool) -> State
-    ensures value { result ≡ after_rs (cells protocol.now seat) alone }
+    ensures value { result ≡ after_rs (P.cells protocol.now seat) alone }
     ensures held { valid result ≡ true }
 {
     if alone {
@@ -23,7 +23,7 @@ pub fn after_read<P: Protocol>(protocol: &P, seat: usize, alone: bool) -> State
 
 /// After an update: cell 4 when alone.
 pub fn after_update<P: Protocol>(protocol: &P, seat: usize, alone: bool) -> State
-    ensures { result ≡ after_up (cells protocol.now seat) alone }
+    ensures { result ≡ after_up (P.cells protocol.now seat) alone }
 {
     if alone {
         cell_state(protocol, seat, 4)
@@ -39,7 +39,7 @@ pub fn after_through_update<P: Protocol>(
     alone: bool,
     state: State,
 ) -> State
-    ensures { result ≡ after_tu (cells protocol.now seat) alone state }
+    ensures { result ≡ after_tu (P.cells protocol.now seat) alone state }
 {
     match (state, alone) {
         (State::Invalid, _) => State::Invalid,
@@ -52,7 +52,7 @@ pub fn after_through_update<P: Protocol>(
 
 /// After a write through with invalidate: cell 7 from Shared, cell 8 from Owned.
 pub fn after_through_invalidate<P: Protocol>(protocol: &P, seat: usize, state: State) -> State
-    ensures { result ≡ after_ti (cells protocol.now seat) state }
+    ensures { result ≡ after_ti (P.cells protocol.now seat) state }
 {
     match state {
         State::Invalid => State::Invalid,
@@ -72,7 +72,7 @@ pub fn keep_through<P: Protocol>(
 )
     requires on { seat < caches.old.seats }
     requires within { word < 4 }
-    ensures caches { caches_of caches.new ≡ put_each line (caches_of caches.old) (slice_set (copies_of line (caches_of caches.old)) seat (kept (after_ti (cells protocol.now seat) (state_at (copies_of line (caches_of caches.old)) seat)) (slice_set (words_at (copies_of line (caches_of caches.old)) seat) word value))) }
+    ensures caches { caches_of caches.new ≡ put_each line (caches_of caches.old) (slice_set (copies_of line (caches_of caches.old)) seat (kept (after_ti (P.cells protocol.now seat) (state_at (copies_of line (caches_of caches.old)) seat)) (slice_set (words_at (copies_of line (caches_of caches.old)) seat) word value))) }
     ensures seats { caches.new.seats ≡ caches.old.seats }
     ensures sets { caches.new.sets ≡ caches.old.sets }
 {

@@ -18,8 +18,8 @@ pub fn supplier(owner: Option<usize>) -> Supplier
 
 /// The words that the bus gives: the owner's, or else memory's.
 pub fn supply<M: Memory>(memory: &M, line: usize, heeded: Heeded) -> [u32; 4]
-    requires { line < length (lines memory.now) }
-    ensures { result ≡ (if is_some heeded.owner then heeded.words else slice_index_or (lines memory.now) line []) }
+    requires { line < length (M.lines memory.now) }
+    ensures { result ≡ (if is_some heeded.owner then heeded.words else slice_index_or (M.lines memory.now) line []) }
 {
     if heeded.owner.is_some() {
         return heeded.words;
@@ -32,8 +32,8 @@ pub fn supply<M: Memory>(memory: &M, line: usize, heeded: Heeded) -> [u32; 4]
 
 /// Memory receives the line too, or not.
 pub fn reflect<M: Memory>(memory: &mut M, line: usize, words: [u32; 4], reflected: bool)
-    ensures lines { lines memory.new ≡ (if reflected then slice_set (lines memory.old) line words else lines memory.old) }
-    ensures aside { aside memory.new ≡ aside memory.old }
+    ensures lines { M.lines memory.new ≡ (if reflected then slice_set (M.lines memory.old) line words else M.lines memory.old) }
+    ensures aside { M.aside memory.new ≡ M.aside memory.old }
 {
     if reflected {
         let _ = memory.write_line(line, words);

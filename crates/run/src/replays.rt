@@ -16,7 +16,7 @@ pub fn replay<P: Protocol + Drop, M: Memory>(
     memory: M,
     steps: &mut [Step],
 ) -> Closed<M>
-    ensures { Replays cells lines settled aside agreed protocol memory steps.old steps.new result }
+    ensures { Replays P.cells M.lines M.settled M.aside agreed protocol memory steps.old steps.new result }
 {
     let (mut run, ticket) = Run::open(agreed, protocol, memory);
     for step in steps.iter_mut() {

@@ -23,9 +23,9 @@ pub(crate) fn perform_all<P: Protocol>(
     mut reader: Reader,
     steps: &mut Vec<Step>,
 ) -> Result<Option<TraceFault>, AllocError>
-    requires history { History (system_of cells plain_lines run.old) }
+    requires history { History (system_of P.cells plain_lines run.old) }
     requires empty { steps.old.items ≡ [] }
-    ensures { IfOk result (λ stop. Plays reader.entry.text.now reader.entry.at (system_of cells plain_lines run.old) (map performed steps.new.items) (option_map trace_stop stop) (system_of cells plain_lines run.new)) }
+    ensures { IfOk result (λ stop. Plays reader.entry.text.now reader.entry.at (system_of P.cells plain_lines run.old) (map performed steps.new.items) (option_map trace_stop stop) (system_of P.cells plain_lines run.new)) }
 {
     loop {
         match next_step(run, &mut reader) {
@@ -38,9 +38,9 @@ pub(crate) fn perform_all<P: Protocol>(
 
 // Reads the next access line and performs it, if the text does not end here.
 fn next_step<P: Protocol>(run: &mut Run<P, Plain>, reader: &mut Reader) -> Turn
-    requires { History (system_of cells plain_lines run.old) }
-    ensures next { Next reader.old.text.now reader.old.at (system_of cells plain_lines run.old) result reader.new.at (system_of cells plain_lines run.new) }
-    ensures history { History (system_of cells plain_lines run.new) }
+    requires { History (system_of P.cells plain_lines run.old) }
+    ensures next { Next reader.old.text.now reader.old.at (system_of P.cells plain_lines run.old) result reader.new.at (system_of P.cells plain_lines run.new) }
+    ensures history { History (system_of P.cells plain_lines run.new) }
     ensures text { reader.new.text.now ≡ reader.old.text.now }
 {
     let byte = reader.at();
@@ -52,8 +52,8 @@ fn next_step<P: Protocol>(run: &mut Run<P, Plain>, reader: &mut Reader) -> Turn
 
 // Performs the access of the line that begins at a byte, if the text does not end there.
 fn perform_next<P: Protocol>(run: &mut Run<P, Plain>, next: Option<Access>, byte: usize) -> Turn
-    requires { History (system_of cells plain_lines run.old) }
-    ensures { MadeNext next byte (system_of cells plain_lines run.old) (system_of cells plain_lines run.new) result }
+    requires { History (system_of P.cells plain_lines run.old) }
+    ensures { MadeNext next byte (system_of P.cells plain_lines run.old) (system_of P.cells plain_lines run.new) result }
 {
     let Some(access) = next else {
         return Turn::Ended;

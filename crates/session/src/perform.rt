@@ -17,8 +17,8 @@ use trace::Access;
 
 /// Performs an access, with four places for bus records.
 pub(crate) fn perform<P: Protocol>(run: &mut Run<P, Plain>, access: Access) -> Result<Step, Refusal>
-    requires { History (system_of cells plain_lines run.old) }
-    ensures { Made access (system_of cells plain_lines run.old) (system_of cells plain_lines run.new) result }
+    requires { History (system_of P.cells plain_lines run.old) }
+    ensures { Made access (system_of P.cells plain_lines run.old) (system_of P.cells plain_lines run.new) result }
 {
     let mut records = [unmade(); MOST_RECORDS];
     let reply = make(run, access, &mut records)?;
@@ -60,7 +60,7 @@ fn make<P: Protocol>(
     records: &mut [Record],
 ) -> Result<Reply, Refusal>
     requires { length records.old ≡ 4 }
-    ensures { Makes (call_of access) (system_of cells plain_lines run.old) (system_of cells plain_lines run.new) records.old records.new result }
+    ensures { Makes (call_of access) (system_of P.cells plain_lines run.old) (system_of P.cells plain_lines run.new) records.old records.new result }
 {
     match access {
         Access::Read { seat, address } => run.read(seat, address, records),
@@ -82,8 +82,8 @@ fn on_line<P: Protocol>(
     reply: Reply,
     records: [Record; MOST_RECORDS],
 ) -> Step
-    requires { address / 4 < length (system_of cells plain_lines run.now).memory }
-    ensures { performed result ≡ record { access = access; answer = reply.value; states = states_on (address / 4) (system_of cells plain_lines run.now); records = take reply.records records } }
+    requires { address / 4 < length (system_of P.cells plain_lines run.now).memory }
+    ensures { performed result ≡ record { access = access; answer = reply.value; states = states_on (address / 4) (system_of P.cells plain_lines run.now); records = take reply.records records } }
 {
     Step {
         access,

@@ -12,8 +12,8 @@ use run::Run;
 
 /// The state of a line in each seat; past the last seat Invalid.
 pub(crate) fn line_states<P: Protocol>(run: &Run<P, Plain>, line: usize) -> [State; MOST_SEATS]
-    requires { line < length (system_of cells plain_lines run.now).memory }
-    ensures { take (length (system_of cells plain_lines run.now).caches) result ≡ states_on line (system_of cells plain_lines run.now) }
+    requires { line < length (system_of P.cells plain_lines run.now).memory }
+    ensures { take (length (system_of P.cells plain_lines run.now).caches) result ≡ states_on line (system_of P.cells plain_lines run.now) }
 {
     let mut states = [State::Invalid; MOST_SEATS];
     for seat in 0..MOST_SEATS {
@@ -24,8 +24,8 @@ pub(crate) fn line_states<P: Protocol>(run: &Run<P, Plain>, line: usize) -> [Sta
 
 // The state of a line in a seat; Invalid past the last one.
 fn state_in<P: Protocol>(run: &Run<P, Plain>, seat: usize, line: usize) -> State
-    requires { line < length (system_of cells plain_lines run.now).memory }
-    ensures { result ≡ state_on (system_of cells plain_lines run.now) line seat }
+    requires { line < length (system_of P.cells plain_lines run.now).memory }
+    ensures { result ≡ state_on (system_of P.cells plain_lines run.now) line seat }
 {
     match run.state(seat, line) {
         Ok(state) => state,

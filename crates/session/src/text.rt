@@ -76,7 +76,7 @@ fn play_on<P: Protocol + Drop>(
     memory: Plain,
 ) -> Result<Ran, AllocError>
     requires { reader.text.now ≡ text.now }
-    ensures { IfOk result (λ ran. Played text.now reader.entry.at agreed.seats agreed.sets (cells protocol) (plain_lines memory) ran) }
+    ensures { IfOk result (λ ran. Played text.now reader.entry.at agreed.seats agreed.sets (P.cells protocol) (plain_lines memory) ran) }
 {
     let mut steps = Vec::new(heap);
     let (mut run, ticket) = Run::open(agreed, protocol, memory);

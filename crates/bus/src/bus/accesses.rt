@@ -22,11 +22,11 @@ impl<P: Protocol, M: Memory> Bus<P, M> {
     // The place is emptied and the line read shared.
     fn fill(&mut self, seat: usize, line: usize, records: &mut [Record], made: usize) -> usize
         requires on { seat < self.old.caches.seats }
-        requires there { line < length (lines self.old.memory) }
+        requires there { line < length (M.lines self.old.memory) }
         requires absent { valid (state_at (copies_of line (caches_of self.old.caches)) seat) ≡ false }
         requires room { Room 15 self.old.tally }
         requires places { made + 2 ≤ length records.old }
-        ensures reaches { Reaches lines aside (filled (cells self.old.protocol) seat line) 2 15 made result records.old records.new self.old self.new }
+        ensures reaches { Reaches M.lines M.aside (filled (P.cells self.old.protocol) seat line) 2 15 made result records.old records.new self.old self.new }
         ensures held { valid (state_at (copies_of line (caches_of self.new.caches)) seat) ≡ true }
     {
         let gone = self.empty(seat, line);
@@ -40,7 +40,7 @@ impl<P: Protocol, M: Memory> Bus<P, M> {
         requires on { seat < self.old.caches.seats }
         requires held { valid (state_at (copies_of line (caches_of self.old.caches)) seat) ≡ true }
         requires within { word < 4 }
-        ensures { Obeys lines aside (change line (silent seat word value)) [] 0 self.old self.new }
+        ensures { Obeys M.lines M.aside (change line (silent seat word value)) [] 0 self.old self.new }
     {
         self.caches.write(seat, line, State::Modified, word, value);
     }
@@ -60,7 +60,7 @@ impl<P: Protocol, M: Memory> Bus<P, M> {
         requires within { word < 4 }
         requires room { Room 14 self.old.tally }
         requires places { made + 2 ≤ length records.old }
-        ensures { Reaches lines aside (written_held (cells self.old.protocol) seat line word value) 2 14 made result records.old records.new self.old self.new }
+        ensures { Reaches M.lines M.aside (written_held (P.cells self.old.protocol) seat line word value) 2 14 made result records.old records.new self.old self.new }
     {
         match choose(&self.protocol, seat, self.caches.state(seat, line)) {
             None => {
@@ -100,12 +100,12 @@ impl<P: Protocol, M: Memory> Bus<P, M> {
         made: usize,
     ) -> usize
         requires on { seat < self.old.caches.seats }
-        requires there { line < length (lines self.old.memory) }
+        requires there { line < length (M.lines self.old.memory) }
         requires absent { valid (state_at (copies_of line (caches_of self.old.caches)) seat) ≡ false }
         requires within { word < 4 }
         requires room { Room 15 self.old.tally }
         requires places { made + 2 ≤ length records.old }
-        ensures { Reaches lines aside (λ m. transact ReadInvalidate seat line (read_invalidate seat word value) (emptied seat line m)) 2 15 made result records.old records.new self.old self.new }
+        ensures { Reaches M.lines M.aside (λ m. transact ReadInvalidate seat line (read_invalidate seat word value) (emptied seat line m)) 2 15 made result records.old records.new self.old self.new }
     {
         let gone = self.empty(seat, line);
         let made = log_if(records, made, gone);
@@ -124,12 +124,12 @@ impl<P: Protocol, M: Memory> Bus<P, M> {
         made: usize,
     ) -> usize
         requires on { seat < self.old.caches.seats }
-        requires there { line < length (lines self.old.memory) }
+        requires there { line < length (M.lines self.old.memory) }
         requires absent { valid (state_at (copies_of line (caches_of self.old.caches)) seat) ≡ false }
         requires within { word < 4 }
         requires room { Room 29 self.old.tally }
         requires places { made + 4 ≤ length records.old }
-        ensures { Reaches lines aside (λ m. written_held (cells self.old.protocol) seat line word value (filled (cells self.old.protocol) seat line m)) 4 29 made result records.old records.new self.old self.new }
+        ensures { Reaches M.lines M.aside (λ m. written_held (P.cells self.old.protocol) seat line word value (filled (P.cells self.old.protocol) seat line m)) 4 29 made result records.old records.new self.old self.new }
     {
         let made = self.fill(seat, line, records, made);
         self.write_held(seat, line, word, value, records, made)
@@ -146,12 +146,12 @@ impl<P: Protocol, M: Memory> Bus<P, M> {
         made: usize,
     ) -> usize
         requires on { seat < self.old.caches.seats }
-        requires there { line < length (lines self.old.memory) }
+        requires there { line < length (M.lines self.old.memory) }
         requires absent { valid (state_at (copies_of line (caches_of self.old.caches)) seat) ≡ false }
         requires within { word < 4 }
         requires room { Room 29 self.old.tally }
         requires places { made + 4 ≤ length records.old }
-        ensures { Reaches lines aside (missed_by (cells self.old.protocol) seat line word value (digit_transaction (cells self.old.protocol seat 0))) 4 29 made result records.old records.new self.old self.new }
+        ensures { Reaches M.lines M.aside (missed_by (P.cells self.old.protocol) seat line word value (digit_transaction (P.cells self.old.protocol seat 0))) 4 29 made result records.old records.new self.old self.new }
     {
         match choose(&self.protocol, seat, State::Invalid) {
             Some(Transaction::ReadShared) => self.fill_then_write(
@@ -175,10 +175,10 @@ impl<P: Protocol, M: Memory> Bus<P, M> {
     // A read's part of the bus: a line that is not held is read shared. Answers how many records were made.
     pub(super) fn fetch(&mut self, seat: usize, line: usize, records: &mut [Record]) -> usize
         requires on { seat < self.old.caches.seats }
-        requires there { line < length (lines self.old.memory) }
+        requires there { line < length (M.lines self.old.memory) }
         requires room { Room 15 self.old.tally }
         requires places { 2 ≤ length records.old }
-        ensures reaches { Reaches lines aside (fetched (cells self.old.protocol) seat line) 2 15 0 result records.old records.new self.old self.new }
+        ensures reaches { Reaches M.lines M.aside (fetched (P.cells self.old.protocol) seat line) 2 15 0 result records.old records.new self.old self.new }
         ensures held { valid (state_at (copies_of line (caches_of self.new.caches)) seat) ≡ true }
     {
         if self.caches.state(seat, line).is_valid() {
@@ -197,11 +197,11 @@ impl<P: Protocol, M: Memory> Bus<P, M> {
         records: &mut [Record],
     ) -> usize
         requires on { seat < self.old.caches.seats }
-        requires there { line < length (lines self.old.memory) }
+        requires there { line < length (M.lines self.old.memory) }
         requires within { word < 4 }
         requires room { Room 29 self.old.tally }
         requires places { 4 ≤ length records.old }
-        ensures { Reaches lines aside (written (cells self.old.protocol) seat line word value) 4 29 0 result records.old records.new self.old self.new }
+        ensures { Reaches M.lines M.aside (written (P.cells self.old.protocol) seat line word value) 4 29 0 result records.old records.new self.old self.new }
     {
         if self.caches.state(seat, line).is_valid() {
             return self.write_held(seat, line, word, value, records, 0);

@@ -20,11 +20,11 @@ impl<P: Protocol, M: Memory> Bus<P, M> {
     /// A seat reads a word: a line that it does not hold is read shared.
     pub fn read(&mut self, seat: usize, line: usize, word: usize, records: &mut [Record]) -> Answer
         requires on { seat < self.old.caches.seats }
-        requires there { line < length (lines self.old.memory) }
+        requires there { line < length (M.lines self.old.memory) }
         requires within { word < 4 }
         requires room { Room 17 self.old.tally }
         requires places { 4 ≤ length records.old }
-        ensures reaches { Reaches lines aside (λ m. counting (one_read (holds seat line m)) (fetched (cells self.old.protocol) seat line m)) 2 17 0 result.made records.old records.new self.old self.new }
+        ensures reaches { Reaches M.lines M.aside (λ m. counting (one_read (holds seat line m)) (fetched (P.cells self.old.protocol) seat line m)) 2 17 0 result.made records.old records.new self.old self.new }
         ensures value { result.value ≡ slice_index (words_at (copies_of line (caches_of self.new.caches)) seat) word }
     {
         let hit = self.caches.state(seat, line).is_valid();
@@ -44,11 +44,11 @@ impl<P: Protocol, M: Memory> Bus<P, M> {
         records: &mut [Record],
     ) -> Answer
         requires on { seat < self.old.caches.seats }
-        requires there { line < length (lines self.old.memory) }
+        requires there { line < length (M.lines self.old.memory) }
         requires within { word < 4 }
         requires room { Room 31 self.old.tally }
         requires places { 4 ≤ length records.old }
-        ensures reaches { Reaches lines aside (λ m. counting (one_write (holds seat line m)) (written (cells self.old.protocol) seat line word value m)) 4 31 0 result.made records.old records.new self.old self.new }
+        ensures reaches { Reaches M.lines M.aside (λ m. counting (one_write (holds seat line m)) (written (P.cells self.old.protocol) seat line word value m)) 4 31 0 result.made records.old records.new self.old self.new }
         ensures value { result.value ≡ value }
     {
         let hit = self.caches.state(seat, line).is_valid();
@@ -62,7 +62,7 @@ impl<P: Protocol, M: Memory> Bus<P, M> {
         requires on { seat < self.old.caches.seats }
         requires room { Room 4 self.old.tally }
         requires places { 4 ≤ length records.old }
-        ensures reaches { Reaches lines aside (flushed seat line) 1 4 0 result.made records.old records.new self.old self.new }
+        ensures reaches { Reaches M.lines M.aside (flushed seat line) 1 4 0 result.made records.old records.new self.old self.new }
         ensures value { result.value ≡ result.made }
     {
         let event = self.flush_line(seat, line);

@@ -21,7 +21,7 @@ impl<P: Protocol, M: Memory> Bus<P, M> {
     fn save(&mut self, seat: usize, line: usize) -> Option<Record>
         requires on { seat < self.old.caches.seats }
         requires room { Room 3 self.old.tally }
-        ensures obeys { Obeys lines aside (λ m. written_back_if (owned (state_in seat line m)) seat line m) (listed result) 3 self.old self.new }
+        ensures obeys { Obeys M.lines M.aside (λ m. written_back_if (owned (state_in seat line m)) seat line m) (listed result) 3 self.old self.new }
         ensures caches { self.new.caches ≡ self.old.caches }
     {
         if self.caches.state(seat, line).is_owned() {
@@ -35,7 +35,7 @@ impl<P: Protocol, M: Memory> Bus<P, M> {
     fn let_go(&mut self, seat: usize, line: usize) -> Option<Record>
         requires on { seat < self.old.caches.seats }
         requires room { Room 3 self.old.tally }
-        ensures obeys { Obeys lines aside (let_go seat line) (listed result) 3 self.old self.new }
+        ensures obeys { Obeys M.lines M.aside (let_go seat line) (listed result) 3 self.old self.new }
         ensures gone { caches_of self.new.caches ≡ put_each line (caches_of self.old.caches) (slice_set (copies_of line (caches_of self.old.caches)) seat none) }
         ensures free { valid (state_at (copies_of line (caches_of self.old.caches)) seat) ≡ true → (n : ℕ) → n % self.old.caches.sets ≡ line % self.old.caches.sets → room (slice_index_or (caches_of self.new.caches) seat []) n ≡ true }
     {
@@ -49,7 +49,7 @@ impl<P: Protocol, M: Memory> Bus<P, M> {
         requires on { seat < self.old.caches.seats }
         requires absent { valid (state_at (copies_of line (caches_of self.old.caches)) seat) ≡ false }
         requires room { Room 4 self.old.tally }
-        ensures obeys { Obeys lines aside (emptied seat line) (listed result) 4 self.old self.new }
+        ensures obeys { Obeys M.lines M.aside (emptied seat line) (listed result) 4 self.old self.new }
         ensures free { room (slice_index_or (caches_of self.new.caches) seat []) line ≡ true }
         ensures absent { valid (state_at (copies_of line (caches_of self.new.caches)) seat) ≡ false }
     {
@@ -67,7 +67,7 @@ impl<P: Protocol, M: Memory> Bus<P, M> {
     pub(super) fn flush_line(&mut self, seat: usize, line: usize) -> Option<Record>
         requires on { seat < self.old.caches.seats }
         requires room { Room 4 self.old.tally }
-        ensures { Obeys lines aside (flushed seat line) (listed result) 4 self.old self.new }
+        ensures { Obeys M.lines M.aside (flushed seat line) (listed result) 4 self.old self.new }
     {
         if !self.caches.state(seat, line).is_valid() {
             return None;

@@ -24,11 +24,11 @@ impl<P: Protocol, M: Memory> Bus<P, M> {
     /// RS: the others react, an owner or else memory supplies the line, and the seat takes it.
     pub(super) fn read_shared(&mut self, seat: usize, line: usize) -> Record
         requires on { seat < self.old.caches.seats }
-        requires there { line < length (lines self.old.memory) }
+        requires there { line < length (M.lines self.old.memory) }
         requires absent { valid (state_at (copies_of line (caches_of self.old.caches)) seat) ≡ false }
         requires free { room (slice_index_or (caches_of self.old.caches) seat []) line ≡ true }
         requires room { Room 11 self.old.tally }
-        ensures obeys { Obeys lines aside (transact ReadShared seat line (read_shared (cells self.old.protocol) seat)) (single result) 11 self.old self.new }
+        ensures obeys { Obeys M.lines M.aside (transact ReadShared seat line (read_shared (P.cells self.old.protocol) seat)) (single result) 11 self.old self.new }
         ensures held { valid (state_at (copies_of line (caches_of self.new.caches)) seat) ≡ true }
     {
         let heeded = self
@@ -59,12 +59,12 @@ impl<P: Protocol, M: Memory> Bus<P, M> {
         value: u32,
     ) -> Record
         requires on { seat < self.old.caches.seats }
-        requires there { line < length (lines self.old.memory) }
+        requires there { line < length (M.lines self.old.memory) }
         requires absent { valid (state_at (copies_of line (caches_of self.old.caches)) seat) ≡ false }
         requires free { room (slice_index_or (caches_of self.old.caches) seat []) line ≡ true }
         requires within { word < 4 }
         requires room { Room 11 self.old.tally }
-        ensures { Obeys lines aside (transact ReadInvalidate seat line (read_invalidate seat word value)) (single result) 11 self.old self.new }
+        ensures { Obeys M.lines M.aside (transact ReadInvalidate seat line (read_invalidate seat word value)) (single result) 11 self.old self.new }
     {
         let heeded = self
             .caches

@@ -25,7 +25,7 @@ impl<P: Protocol, M: Memory> Bus<P, M> {
         requires held { valid (state_at (copies_of line (caches_of self.old.caches)) seat) ≡ true }
         requires within { word < 4 }
         requires room { Room 11 self.old.tally }
-        ensures { Obeys lines aside (transact Invalidate seat line (invalidate seat word value)) (single result) 11 self.old self.new }
+        ensures { Obeys M.lines M.aside (transact Invalidate seat line (invalidate seat word value)) (single result) 11 self.old self.new }
     {
         let heeded = self
             .caches
@@ -49,7 +49,7 @@ impl<P: Protocol, M: Memory> Bus<P, M> {
         requires held { valid (state_at (copies_of line (caches_of self.old.caches)) seat) ≡ true }
         requires within { word < 4 }
         requires room { Room 11 self.old.tally }
-        ensures { Obeys lines aside (transact Update seat line (update (cells self.old.protocol) seat word value)) (single result) 11 self.old self.new }
+        ensures { Obeys M.lines M.aside (transact Update seat line (update (P.cells self.old.protocol) seat word value)) (single result) 11 self.old self.new }
     {
         let heeded = self
             .caches
@@ -80,7 +80,7 @@ impl<P: Protocol, M: Memory> Bus<P, M> {
         requires held { valid (state_at (copies_of line (caches_of self.old.caches)) seat) ≡ true }
         requires within { word < 4 }
         requires room { Room 11 self.old.tally }
-        ensures { Obeys lines aside (transact ThroughUpdate seat line (through_update (cells self.old.protocol) seat word value)) (single result) 11 self.old self.new }
+        ensures { Obeys M.lines M.aside (transact ThroughUpdate seat line (through_update (P.cells self.old.protocol) seat word value)) (single result) 11 self.old self.new }
     {
         let _ = self.memory.write_word(line, word, value);
         let old = self.caches.state(seat, line);

@@ -15,7 +15,7 @@ impl<P: Protocol, M: Memory> Bus<P, M> {
         requires on { seat < self.old.caches.seats }
         requires within { at < self.old.caches.sets }
         requires room { Room 4 self.old.tally }
-        ensures settles { Settles lines aside (flushed_set seat at) result 4 self.old self.new }
+        ensures settles { Settles M.lines M.aside (flushed_set seat at) result 4 self.old self.new }
         ensures few { result ≤ 1 }
     {
         match self.caches.standing(seat, at) {
@@ -31,7 +31,7 @@ impl<P: Protocol, M: Memory> Bus<P, M> {
     fn settle_seat(&mut self, seat: usize) -> u32
         requires on { seat < self.old.caches.seats }
         requires room { Room 256 self.old.tally }
-        ensures settles { Settles lines aside (flushed_seat seat) result 256 self.old self.new }
+        ensures settles { Settles M.lines M.aside (flushed_seat seat) result 256 self.old self.new }
         ensures few { result ≤ 64 }
     {
         let mut written = 0;
@@ -44,7 +44,7 @@ impl<P: Protocol, M: Memory> Bus<P, M> {
     /// Every seat drops every copy, after a write back if it is owned. Answers the lines written.
     pub fn settle(&mut self) -> u32
         requires { Room 2048 self.old.tally }
-        ensures { Settles lines aside settled result 2048 self.old self.new }
+        ensures { Settles M.lines M.aside settled result 2048 self.old self.new }
     {
         let mut written = 0;
         for seat in 0..self.caches.seats() {

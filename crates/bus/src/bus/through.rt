@@ -21,7 +21,7 @@ impl<P: Protocol, M: Memory> Bus<P, M> {
     // An owner of the line in another seat writes it back.
     fn save_owner(&mut self, seat: usize, line: usize) -> Option<Record>
         requires { Room 3 self.old.tally }
-        ensures { Obeys lines aside (saved_from seat line) (listed result) 3 self.old self.new }
+        ensures { Obeys M.lines M.aside (saved_from seat line) (listed result) 3 self.old self.new }
     {
         match self.caches.owner(seat, line) {
             Some(owner) => Some(self.write_back(owner, line)),
@@ -34,7 +34,7 @@ impl<P: Protocol, M: Memory> Bus<P, M> {
         requires on { seat < self.old.caches.seats }
         requires within { word < 4 }
         requires room { Room 11 self.old.tally }
-        ensures { Obeys lines aside (transact ThroughInvalidate seat line (through_invalidate (cells self.old.protocol) seat word value)) (single result) 11 self.old self.new }
+        ensures { Obeys M.lines M.aside (transact ThroughInvalidate seat line (through_invalidate (P.cells self.old.protocol) seat word value)) (single result) 11 self.old self.new }
     {
         let _ = self.memory.write_word(line, word, value);
         let heeded = self
@@ -67,7 +67,7 @@ impl<P: Protocol, M: Memory> Bus<P, M> {
         requires within { word < 4 }
         requires room { Room 14 self.old.tally }
         requires places { made + 2 ≤ length records.old }
-        ensures { Reaches lines aside (through (cells self.old.protocol) seat line word value) 2 14 made result records.old records.new self.old self.new }
+        ensures { Reaches M.lines M.aside (through (P.cells self.old.protocol) seat line word value) 2 14 made result records.old records.new self.old self.new }
     {
         let saved = self.save_owner(seat, line);
         let made = log_if(records, made, saved);

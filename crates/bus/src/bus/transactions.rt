@@ -22,7 +22,7 @@ impl<P: Protocol, M: Memory> Bus<P, M> {
         requires on { seat < self.old.caches.seats }
         requires held { valid (state_at (copies_of line (caches_of self.old.caches)) seat) ≡ true }
         requires room { Room 3 self.old.tally }
-        ensures obeys { Obeys lines aside (transact WriteBack seat line (write_back seat)) (single result) 3 self.old self.new }
+        ensures obeys { Obeys M.lines M.aside (transact WriteBack seat line (write_back seat)) (single result) 3 self.old self.new }
         ensures caches { self.new.caches ≡ self.old.caches }
     {
         let words = self.caches.words(seat, line);

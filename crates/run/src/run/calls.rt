@@ -19,7 +19,7 @@ impl<P: Protocol, M: Memory> Run<P, M> {
         address: u32,
         records: &mut [Record],
     ) -> Result<Reply, Refusal>
-        ensures { Called cells lines aside (Read seat address (length records.old)) self.old self.new records.old records.new result }
+        ensures { Called P.cells M.lines M.aside (Read seat address (length records.old)) self.old self.new records.old records.new result }
     {
         self.check(seat, address, records.len())?;
         let at = Place::of(address);
@@ -39,7 +39,7 @@ impl<P: Protocol, M: Memory> Run<P, M> {
         value: u32,
         records: &mut [Record],
     ) -> Result<Reply, Refusal>
-        ensures { Called cells lines aside (Write seat address value (length records.old)) self.old self.new records.old records.new result }
+        ensures { Called P.cells M.lines M.aside (Write seat address value (length records.old)) self.old self.new records.old records.new result }
     {
         self.check(seat, address, records.len())?;
         let at = Place::of(address);
@@ -60,7 +60,7 @@ impl<P: Protocol, M: Memory> Run<P, M> {
         address: u32,
         records: &mut [Record],
     ) -> Result<Reply, Refusal>
-        ensures { Called cells lines aside (Flush seat address (length records.old)) self.old self.new records.old records.new result }
+        ensures { Called P.cells M.lines M.aside (Flush seat address (length records.old)) self.old self.new records.old records.new result }
     {
         self.check(seat, address, records.len())?;
         let at = Place::of(address);
@@ -74,7 +74,7 @@ impl<P: Protocol, M: Memory> Run<P, M> {
 
     /// Every seat drops every copy. Refused with 5.
     pub fn settle(&mut self) -> Result<Reply, Refusal>
-        ensures { Called cells lines aside Settle self.old self.new [] [] result }
+        ensures { Called P.cells M.lines M.aside Settle self.old self.new [] [] result }
     {
         self.check_calls()?;
         let written = self.bus.settle();

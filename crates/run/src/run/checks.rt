@@ -21,7 +21,7 @@ pub const PLACES_NEEDED: usize = 4;
 impl<P: Protocol, M: Memory> Run<P, M> {
     /// Another call may be answered.
     pub(super) fn check_calls(&self) -> Result<(), Refusal>
-        ensures { Answers (due_in 4 (system_of cells lines self.now) Settle) tt result }
+        ensures { Answers (due_in 4 (system_of P.cells M.lines self.now) Settle) tt result }
     {
         if self.calls >= CALL_LIMIT {
             return Err(Refusal::CallLimit);
@@ -31,7 +31,7 @@ impl<P: Protocol, M: Memory> Run<P, M> {
 
     /// Another call may be answered, the seat is on the bus, the address in memory, and there are places enough.
     pub(super) fn check(&self, seat: u32, address: u32, places: usize) -> Result<(), Refusal>
-        ensures { Answers (access_due (system_of cells lines self.now) seat address places) tt result }
+        ensures { Answers (access_due (system_of P.cells M.lines self.now) seat address places) tt result }
     {
         self.check_calls()?;
         if seat as usize >= self.seats() {

@@ -22,7 +22,7 @@ fn drained<M: Memory>(mut memory: M) -> M
 impl<P: Protocol + Drop, M: Memory> Run<P, M> {
     /// Settles, drains the memory, and gives it back with the tally and the lines written. It is never refused.
     pub fn close(self, ticket: Ticket) -> Closed<M>
-        ensures { Closes cells lines settled aside self result }
+        ensures { Closes P.cells M.lines M.settled M.aside self result }
     {
         ticket.spend();
         let Run { mut bus, calls: _ } = self;

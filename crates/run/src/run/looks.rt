@@ -13,35 +13,35 @@ use rules::Tally;
 impl<P: Protocol, M: Memory> Run<P, M> {
     /// The seats on the bus.
     pub fn seats(&self) -> usize
-        ensures { result ≡ length (system_of cells lines self.now).caches }
+        ensures { result ≡ length (system_of P.cells M.lines self.now).caches }
     {
         self.bus.caches.seats()
     }
 
     /// The lines of the memory.
     pub fn lines(&self) -> usize
-        ensures { result ≡ length (system_of cells lines self.now).memory }
+        ensures { result ≡ length (system_of P.cells M.lines self.now).memory }
     {
         self.bus.memory.count()
     }
 
     /// The calls answered since opening.
     pub fn calls(&self) -> u32
-        ensures { result ≡ (system_of cells lines self.now).answered }
+        ensures { result ≡ (system_of P.cells M.lines self.now).answered }
     {
         self.calls
     }
 
     /// What was counted since opening.
     pub fn tally(&self) -> Tally
-        ensures { result ≡ (system_of cells lines self.now).tally }
+        ensures { result ≡ (system_of P.cells M.lines self.now).tally }
     {
         self.bus.tally
     }
 
     /// The state of a seat's copy of a line. Refused with 6 for a seat not on the bus, then with 7 for a line beyond memory.
     pub fn state(&self, seat: usize, line: usize) -> Result<State, Refusal>
-        ensures { Answers (look_due (system_of cells lines self.now) seat line) (state_on (system_of cells lines self.now) line seat) result }
+        ensures { Answers (look_due (system_of P.cells M.lines self.now) seat line) (state_on (system_of P.cells M.lines self.now) line seat) result }
     {
         if seat >= self.seats() {
             return Err(Refusal::NoSeat);

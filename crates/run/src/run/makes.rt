@@ -16,8 +16,8 @@ use rules::{Call, Record, Supplier};
 impl<P: Protocol, M: Memory> Run<P, M> {
     /// Makes the call, with as many of four places as it brings, and keeps no record.
     pub(crate) fn make(&mut self, call: Call) -> Result<Reply, Refusal>
-        ensures replies { Answers (due_in 4 (system_of cells lines self.old) call) (reply_of (outcome 4 call (system_of cells lines self.old))) result }
-        ensures system { system_of cells lines self.new ≡ (outcome 4 call (system_of cells lines self.old)).system }
+        ensures replies { Answers (due_in 4 (system_of P.cells M.lines self.old) call) (reply_of (outcome 4 call (system_of P.cells M.lines self.old))) result }
+        ensures system { system_of P.cells M.lines self.new ≡ (outcome 4 call (system_of P.cells M.lines self.old)).system }
         ensures aside { aside self.new.bus.memory ≡ aside self.old.bus.memory }
     {
         let blank = Record {

@@ -37,7 +37,7 @@ fn blank_tally() -> Tally
 impl<P: Protocol, M: Memory> Run<P, M> {
     /// Opens a run with every copy Invalid, and gives its ticket. It is never refused.
     pub fn open(agreed: Agreed, protocol: P, memory: M) -> (Run<P, M>, Ticket)
-        ensures { Opened cells lines agreed protocol memory result.0 }
+        ensures { Opened P.cells M.lines agreed protocol memory result.0 }
     {
         let bus = Bus {
             protocol,

@@ -7,7 +7,7 @@ use Rattle.run.proofs.run.Run.settle.Goals as goal
 
 pub returns-in_err-check_calls : goal.returns-in_err-check_calls
 returns-in_err-check_calls g c =
-    let p = err_from_is_err_and c.from-residual.result c.from-residual.ensures.1 in
+    let p = err_from_is_err_and c.from_residual.result c.from_residual.ensures.1 in
     rw (p.1, p.2)
     (refused-call g.P.Protocol.cells g.M.Memory.lines g.M.Memory.aside Settle
     c.args.self.now [] c.in_err-check_calls.field-0.0 c.in_err-check_calls.ensures)

@@ -16,7 +16,7 @@ use Rattle.run.proofs.run.Run.write.Goals as goal
 
 pub returns-in_err-check : goal.returns-in_err-check
 returns-in_err-check g c =
-    let p = err_from_is_err_and c.from-residual.result c.from-residual.ensures.1 in
+    let p = err_from_is_err_and c.from_residual.result c.from_residual.ensures.1 in
     rw (p.1, p.2)
     (refused-call g.P.Protocol.cells g.M.Memory.lines g.M.Memory.aside (Write c.args.seat c.args.address c.args.value (length c.args.records.now))
     c.args.self.now c.args.records.now c.in_err-check.field-0.0 c.in_err-check.ensures)

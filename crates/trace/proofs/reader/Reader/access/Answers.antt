@@ -8,11 +8,11 @@ use Rattle.trace.proofs.reader.Reader.access.Goals as goal
 
 pub returns-in_err-access : goal.returns-in_err-access
 returns-in_err-access c =
-    let p = err_from_is_err_and c.from-residual.result c.from-residual.ensures.1 in
+    let p = err_from_is_err_and c.from_residual.result c.from_residual.ensures.1 in
     let t = c.args.self.now.text.now in
     let i = c.args.self.now.at in
-    let h = reads-err (access_at t i) i i c.from-residual.result c.in_err-access.field-0.0 (p.1 ∙ ap Err p.2) c.in_err-access.ensures.comes refl in
-    record { reads = h; faithful = keeps-faith access-grammar t i c.args.self.now.within c.from-residual.result i h; text = refl }
+    let h = reads-err (access_at t i) i i c.from_residual.result c.in_err-access.field-0.0 (p.1 ∙ ap Err p.2) c.in_err-access.ensures.comes refl in
+    record { reads = h; faithful = keeps-faith access-grammar t i c.args.self.now.within c.from_residual.result i h; text = refl }
 
 pub returns : goal.returns
 returns c =

@@ -5,13 +5,13 @@ use Rattle.trace.proofs.reader.Reader.count_accesses.Goals as goal
 
 pub returns-in_err-next_access : goal.returns-in_err-next_access
 returns-in_err-next_access c =
-    let p = err_from_is_err_and c.from-residual.result c.from-residual.ensures.1 in
+    let p = err_from_is_err_and c.from_residual.result c.from_residual.ensures.1 in
     let t = c.args.self.now.text.now in
     let i = c.args.self.now.at in
     let a = c.loop-count.ahead in
     record {
       counted =
-          counted-fault a.text.now t i a.at c.next_access.new.self.at c.loop-count.count c.from-residual.result c.in_err-next_access.field-0.0
+          counted-fault a.text.now t i a.at c.next_access.new.self.at c.loop-count.count c.from_residual.result c.in_err-next_access.field-0.0
           c.loop-count.invariant.0 (p.1 ∙ ap Err p.2) c.in_err-next_access.ensures.reads c.loop-count.invariant.2;
       laws = access-laws t i c.args.self.now.within;
     }

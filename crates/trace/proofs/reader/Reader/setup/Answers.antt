@@ -12,15 +12,15 @@ checked-requires c =
 
 pub returns-in_err-setup : goal.returns-in_err-setup
 returns-in_err-setup c =
-    let p = err_from_is_err_and c.from-residual-in_err-setup.result c.from-residual-in_err-setup.ensures.1 in
+    let p = err_from_is_err_and c.from_residual-in_err-setup.result c.from_residual-in_err-setup.ensures.1 in
     let t = c.args.self.now.text.now in
     let i = c.args.self.now.at in
     let f = c.in_err-setup.field-0.0 in
     let e = p.1 ∙ ap Err p.2 in
     let o = open-line t i c.in_ok-line.line c.bus_line.new.self.at (omega arith) c.in_ok-line.ensures.reads in
     record {
-      settled = settled-err (open_stop t i) (Opened t i i) c.from-residual-in_err-setup.result f e (o ∙ c.in_err-setup.ensures);
-      held = held-err (i ≡ i) c.from-residual-in_err-setup.result f e refl;
+      settled = settled-err (open_stop t i) (Opened t i i) c.from_residual-in_err-setup.result f e (o ∙ c.in_err-setup.ensures);
+      held = held-err (i ≡ i) c.from_residual-in_err-setup.result f e refl;
       text = refl;
     }
 
