@@ -1,13 +1,13 @@
 -- Access lines keep faith with their written form.
-use Rattle.std.proofs.Common.{◌≡◌, ℕ, ◌+◌, ◌^◌, ◌<◌, Bool, true, false, cond, eqb, ◌⊎◌, List, [], ◌∷◌, ◌++◌, length, Some, None, Ok, Err, decimal, Option, sym, refl, ap, ◌∙◌, subst, inl, inr, ⊎_elim, append_assoc, arith}
+use Rattle.std.proofs.Common.{◌≡◌, ℕ, true, false, cond, eqb, ◌⊎◌, List, [], ◌∷◌, ◌++◌, Some, None, Ok, Err, decimal, Option, sym, refl, ap, ◌∙◌, inl, inr, ⊎_elim, append_assoc, arith}
 use Rattle.trace.specs.declared.access.Access.{Access}
 use Rattle.trace.specs.declared.access.Access.TheVariants.{Read, Write, Flush, Settle}
 use Rattle.trace.specs.declared.fault.LineFault.TheVariants.{Form}
 use Rattle.trace.specs.Choices.{is_digit}
-use Rattle.trace.specs.Reading.{Outcome, and_then, next_at, is_byte, byte_at, number_at}
+use Rattle.trace.specs.Reading.{Outcome, and_then, next_at, is_byte, byte_at}
 use Rattle.trace.specs.Lines.{target_at, read_line_at, write_line_at, flush_line_at, settle_line_at, access_at, access_by}
 use Rattle.trace.specs.Written.{written, Sound, Fits32}
-use Rattle.trace.proofs.Grammars.{From, stops, Grammar, then-grammar, made-grammar, alike_grammar, named-grammar}
+use Rattle.trace.proofs.Grammars.{stops, Grammar, then-grammar, made-grammar, alike_grammar, named-grammar}
 use Rattle.std.proofs.lemmas.Bool.{cases_Bool, cond-true, cond-false}
 use Rattle.trace.proofs.Parting.{byte-not}
 use Rattle.trace.proofs.Tokens.{byte-grammar, number-grammar}

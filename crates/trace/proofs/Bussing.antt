@@ -1,5 +1,5 @@
 -- The bus line keeps faith with its written form.
-use Rattle.std.proofs.Common.{◌≡◌, ℕ, ◌+◌, ◌^◌, ◌<◌, Bool, true, false, eqb, ◌⊎◌, List, [], ◌∷◌, ◌++◌, length, Some, None, decimal, Option, sym, refl, ap, ◌∙◌, inl, inr, arith}
+use Rattle.std.proofs.Common.{◌≡◌, ℕ, ◌+◌, true, false, ◌⊎◌, List, [], ◌∷◌, ◌++◌, length, Some, None, decimal, Option, refl, ap, ◌∙◌, inl, inr, arith}
 use Rattle.trace.specs.declared.bus_line.BusLine.{BusLine}
 use Rattle.trace.specs.declared.bus_line.Numeral.{Numeral}
 use Rattle.trace.specs.declared.bus_line.Second.{Second}

@@ -1,11 +1,9 @@
 -- The words of a bus line that was read lie in the text.
-use Rattle.std.proofs.Common.{◌≡◌, ℕ, ◌+◌, ◌-◌, ◌≤◌, List, [], ◌∷◌, ◌++◌, length, drop, Some, None, Ok, Err, decimal, Option, sym, refl, ap, ◌∙◌, subst, arith, length-append, length-drop}
+use Rattle.std.proofs.Common.{◌≡◌, ℕ, ◌+◌, ◌≤◌, List, length, drop, Some, None, Ok, decimal, Option, sym, refl, ap, subst, arith, length-append, length-drop}
 use Rattle.trace.specs.declared.bus_line.BusLine.{BusLine}
-use Rattle.trace.specs.declared.bus_line.Second.{Second}
 use Rattle.trace.specs.Lines.{bus_at}
 use Rattle.trace.specs.Setups.{Inside, InsideSecond}
-use Rattle.trace.specs.Written.{BusText, SecondText, written_tail, written_bus, bus_line_of, tail_of, below_from, first_from}
-use Rattle.trace.proofs.Grammars.{Passed}
+use Rattle.trace.specs.Written.{BusText, SecondText, written_tail, written_bus, tail_of, first_from}
 use Rattle.trace.proofs.Bussing.{bus-grammar}
 
 -- how long a bus line is

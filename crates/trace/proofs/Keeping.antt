@@ -1,5 +1,5 @@
 -- A line that is read whole keeps faith with its written form.
-use Rattle.std.proofs.Common.{◌≡◌, ℕ, ◌+◌, ◌-◌, ◌^◌, ◌<◌, ◌≤◌, Bool, true, false, List, [], ◌∷◌, ◌++◌, length, take, drop, Ok, Err, Result, sym, refl, ap, ◌∙◌, subst, append_assoc, append-nil, arith, length-append, length-drop}
+use Rattle.std.proofs.Common.{◌≡◌, ℕ, ◌+◌, ◌-◌, ◌^◌, ◌<◌, ◌≤◌, false, List, [], ◌∷◌, ◌++◌, length, take, drop, Ok, Err, Result, sym, refl, ap, ◌∙◌, subst, append_assoc, append-nil, arith, length-append, length-drop}
 use Rattle.std.proofs.lemmas.List.{take_at, drop_at, take-append-drop, length-take-le}
 use Rattle.trace.specs.declared.fault.NumberFault.{NumberFault}
 use Rattle.trace.specs.declared.fault.LineFault.{LineFault}
@@ -8,7 +8,7 @@ use Rattle.trace.specs.declared.part.Part.TheVariants as part
 use Rattle.trace.specs.Reading.{Outcome, Reads, value_on}
 use Rattle.trace.specs.Runs.{run}
 use Rattle.trace.specs.Written.{Stands, Front, Overflow, Faithful}
-use Rattle.trace.proofs.Grammars.{From, from_on, stops, Passed, Reached, Stuck, Large, Grammar}
+use Rattle.trace.proofs.Grammars.{From, from_on, Reached, Stuck, Large, Grammar}
 use Rattle.trace.proofs.Tokens.{same_read}
 use Rattle.trace.proofs.Accessing.{all-stop}
 

@@ -1,11 +1,10 @@
 -- What stops the opening of a text whose bus line was read.
-use Rattle.std.proofs.Common.{◌≡◌, ℕ, ◌≤◌, cond, ltb, List, length, Some, None, Ok, Err, Option, Result, sym, ap, ◌∙◌, subst}
+use Rattle.std.proofs.Common.{◌≡◌, ℕ, ◌≤◌, ltb, List, length, Some, Ok, Err, Option, Result, sym, ap, ◌∙◌, subst}
 use Rattle.std.proofs.lemmas.Bool.{cond-false, le-ltb}
 use Rattle.refusal.specs.Refusals.{plain}
 use Rattle.trace.specs.declared.bus_line.BusLine.{BusLine}
 use Rattle.trace.specs.declared.fault.TraceFault.{TraceFault}
 use Rattle.trace.specs.Faults.{Stop, trace_stop}
-use Rattle.trace.specs.Reading.{Outcome}
 use Rattle.trace.specs.Lines.{bus_at}
 use Rattle.trace.specs.Setups.{Settled, setup_stop}
 use Rattle.trace.specs.Texts.{bus_stop, open_stop, Held}

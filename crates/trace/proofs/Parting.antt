@@ -1,16 +1,15 @@
 -- The parts of a line, as the reader meets them.
-use Rattle.std.proofs.Common.{◌≡◌, ℕ, ◌+◌, ◌-◌, ◌<◌, ◌≤◌, Bool, true, false, cond, eqb, List, [], ◌∷◌, length, get_or, take, drop, Some, None, Ok, Err, Option, Result, sym, refl, ap, ◌∙◌, subst, arith, length-drop}
+use Rattle.std.proofs.Common.{◌≡◌, ℕ, ◌+◌, ◌-◌, ◌<◌, ◌≤◌, true, false, cond, eqb, List, [], ◌∷◌, length, get_or, take, drop, Some, None, Ok, Err, Result, sym, refl, ap, ◌∙◌, subst, arith}
 use Rattle.std.specs.List.{prefix_len}
 use Rattle.std.proofs.lemmas.List.{at_drop_more, at_drop_all, length-take-le}
 use Rattle.std.proofs.lemmas.List.Sums.{prefix_len-le-length}
 use Rattle.std.proofs.lemmas.Bool.{cond-true, cond-false}
 use Rattle.refusal.specs.Refusals.{first}
 use Rattle.trace.specs.declared.fault.LineFault.{LineFault}
-use Rattle.trace.specs.declared.fault.LineFault.TheVariants.{Form, Number}
-use Rattle.trace.specs.declared.word.Word.{Word}
+use Rattle.trace.specs.declared.fault.LineFault.TheVariants.{Form}
 use Rattle.trace.specs.declared.part.Part.{Part}
 use Rattle.trace.specs.declared.part.Part.TheVariants as part
-use Rattle.trace.specs.Runs.{stands, run, run_at}
+use Rattle.trace.specs.Runs.{stands, run_at}
 use Rattle.trace.specs.Reading.{Outcome, Reads, next_at, byte_at, is_byte, number_at, number_of, up_to, kept_fault, fitting, word_at, word_of}
 
 -- the next byte, and none at the end

@@ -1,5 +1,5 @@
 -- The parts of a line keep faith with what is written: a byte, a number, a word.
-use Rattle.std.proofs.Common.{◌≡◌, ℕ, ◌+◌, ◌^◌, ◌<◌, ◌≤◌, Bool, true, false, cond, not, ◌&&◌, eqb, List, [], ◌∷◌, ◌++◌, length, drop, Some, None, Ok, Err, decimal, Option, Result, sym, refl, ap, ◌∙◌, subst, ⊎_elim, arith}
+use Rattle.std.proofs.Common.{◌≡◌, ℕ, ◌+◌, ◌^◌, ◌<◌, true, false, ◌&&◌, eqb, List, [], ◌∷◌, ◌++◌, length, Ok, Err, decimal, Result, sym, refl, ap, ◌∙◌, subst, ⊎_elim, arith}
 use Rattle.std.proofs.lemmas.Bool.{cases_Bool, eqb-true, eq-eqb, and_parts}
 use Rattle.std.proofs.lemmas.Fmt.{digits_decimal, decimal_digit}
 use Rattle.refusal.specs.Refusals.{first}
@@ -13,7 +13,7 @@ use Rattle.trace.specs.Written.{IsWord, span_of}
 use Rattle.trace.specs.Reading.{Outcome, next_at, is_byte, byte_at, number_at, number_of, up_to, word_at, word_of}
 use Rattle.trace.proofs.Grammars.{From, stops, Passed, Stuck, Large, Grammar}
 use Rattle.trace.proofs.Parting.{byte-is, byte-not}
-use Rattle.trace.proofs.Digits.{front, front_cut, front-yes, front-no, front-stops, cuts, own, small, decimal_read, digits_ok, digits-written, ReadDigits, WrongDigits, none, leading_zero, digits_wrong, digits-large}
+use Rattle.trace.proofs.Digits.{front, front_cut, front-yes, front-stops, cuts, own, small, decimal_read, digits_ok, digits-written, WrongDigits, none, leading_zero, digits_wrong, digits-large}
 
 pub next-from : (t : List ℕ) (i : ℕ) (s : List ℕ) → From t i s → next_at t i ≡ first s
 unfolding next_at

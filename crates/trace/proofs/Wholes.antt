@@ -7,8 +7,7 @@ use Rattle.trace.specs.declared.access.Access.TheVariants.{Read, Write, Flush, S
 use Rattle.trace.specs.declared.fault.LineFault.{LineFault}
 use Rattle.trace.specs.declared.fault.TraceFault.{TraceFault}
 use Rattle.trace.specs.Lines.{access_at}
-use Rattle.trace.specs.Reading.{Outcome}
-use Rattle.trace.specs.Texts.{Accesses, ended, faulty, more, WrittenFrom, AccessLaws, NextRead, Counted}
+use Rattle.trace.specs.Texts.{Accesses, ended, faulty, more, AccessLaws, NextRead, Counted}
 use Rattle.trace.specs.Written.{written, Sound}
 use Rattle.trace.proofs.Grammars.{from_on}
 use Rattle.trace.proofs.Tokens.{same_read}

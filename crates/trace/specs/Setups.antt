@@ -18,9 +18,7 @@ use Rattle.trace.specs.declared.setup.Division.{Division}
 use Rattle.trace.specs.declared.setup.Setup.{Setup}
 use Rattle.trace.specs.declared.word.Word.{Word}
 use Rattle.trace.specs.Choices.{word_refusal, Chosen}
-use Rattle.trace.specs.Faults.{Stop, line_stop, trace_stop}
-use Rattle.trace.specs.Reading.{Outcome}
-use Rattle.trace.specs.Lines.{bus_at}
+use Rattle.trace.specs.Faults.{Stop, trace_stop}
 
 -- a call answers a value of which P holds exactly when no stop is due, and else the one that is due
 abbrev pub Settled : {A : Type 0} → Option Stop → (A → Type 0) → Result A TraceFault → Type 0

@@ -8,7 +8,7 @@
 -- Overflow   a number that does not fit begins at byte k, behind such a front
 -- Faithful   what is written is read back; what is read stands there as it is written; a line of wrong form is told
 --            at the end of its longest front, and a number that does not fit at its first byte
-use Rattle.std.specs.Prelude.{◌≡◌, ℕ, ◌+◌, ◌-◌, ◌^◌, ◌<◌, ◌≤◌, Bool, true, List, [], ◌∷◌, ◌++◌, length, take, drop, Some, None, Ok, Err, codes, decimal, Option, Result}
+use Rattle.std.specs.Prelude.{◌≡◌, ℕ, ◌+◌, ◌-◌, ◌^◌, ◌<◌, ◌≤◌, true, List, [], ◌∷◌, ◌++◌, length, take, drop, Some, None, Ok, Err, codes, decimal, Option, Result}
 use Rattle.trace.specs.declared.access.Access.{Access}
 use Rattle.trace.specs.declared.access.Access.TheVariants.{Read, Write, Flush, Settle}
 use Rattle.trace.specs.declared.bus_line.BusLine.{BusLine}

@@ -1,4 +1,6 @@
 // The trace text: its lines, its faults, and the words that choose a protocol.
+#![tactic(auto)]
+
 mod access;
 mod bus_line;
 mod choice;

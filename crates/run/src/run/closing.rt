@@ -11,9 +11,9 @@ use protocol::Protocol;
 
 // The memory with every line settled at the bottom.
 fn drained<M: Memory>(mut memory: M) -> M
-    ensures lines { lines result ≡ lines memory }
-    ensures settled { settled result ≡ lines memory }
-    ensures aside { aside result ≡ aside memory }
+    ensures lines { M.lines result ≡ M.lines memory }
+    ensures settled { M.settled result ≡ M.lines memory }
+    ensures aside { M.aside result ≡ M.aside memory }
 {
     memory.drain();
     memory

@@ -18,7 +18,7 @@ impl<P: Protocol, M: Memory> Run<P, M> {
     pub(crate) fn make(&mut self, call: Call) -> Result<Reply, Refusal>
         ensures replies { Answers (due_in 4 (system_of P.cells M.lines self.old) call) (reply_of (outcome 4 call (system_of P.cells M.lines self.old))) result }
         ensures system { system_of P.cells M.lines self.new ≡ (outcome 4 call (system_of P.cells M.lines self.old)).system }
-        ensures aside { aside self.new.bus.memory ≡ aside self.old.bus.memory }
+        ensures aside { M.aside self.new.bus.memory ≡ M.aside self.old.bus.memory }
     {
         let blank = Record {
             transaction: Transaction::WriteBack,

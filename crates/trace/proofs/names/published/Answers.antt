@@ -1,5 +1,5 @@
 -- A word that differs from each name is no name.
-use Rattle.std.proofs.Common.{List, [], ◌∷◌, sym}
+use Rattle.std.proofs.Common.{[], ◌∷◌, sym}
 use Rattle.protocol.specs.declared.published.Published.TheVariants.{WriteThrough, Msi, WriteOnce, Illinois, Berkeley, Dragon, Firefly}
 use Rattle.trace.specs.Choices.{Unnamed}
 use Rattle.trace.proofs.Naming.{none-among, by_names}

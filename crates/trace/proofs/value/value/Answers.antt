@@ -1,4 +1,4 @@
-use Rattle.std.proofs.Common.{◌≡◌, ℕ, ◌+◌, ◌^◌, ◌<◌, length, drop, Ok, Err, sym, ap, ◌∙◌, subst, arith}
+use Rattle.std.proofs.Common.{◌≡◌, ℕ, ◌+◌, drop, Ok, sym, ap, ◌∙◌, subst, arith}
 use Rattle.trace.specs.Reading.{value_on}
 use Rattle.trace.proofs.Valuing.{value_on_lem, value-ends, fits-small, front-large}
 use Rattle.trace.proofs.value.value.Goals as goal

@@ -1,4 +1,4 @@
-use Rattle.std.proofs.Common.{Ok, Err, ap, ◌∙◌, arith}
+use Rattle.std.proofs.Common.{Err, ap, ◌∙◌, arith}
 use Rattle.std.proofs.lemmas.Result.{err_from_is_err_and}
 use Rattle.trace.proofs.Wholes.{goes_on, access-laws, followed_on, next-some, next-none, counted-all, counted-fault}
 use Rattle.trace.proofs.reader.Reader.count_accesses.Goals as goal

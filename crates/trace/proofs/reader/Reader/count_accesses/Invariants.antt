@@ -1,5 +1,5 @@
 -- What is still to come, behind the lines counted so far, is what follows from where the counting began.
-use Rattle.std.proofs.Common.{◌≡◌, ℕ, ◌+◌, ◌-◌, ◌≤◌, List, length, Option}
+use Rattle.std.proofs.Common.{◌≡◌, ◌+◌, ◌-◌, ◌≤◌, List, length, Option}
 use Rattle.trace.specs.declared.access.Access.{Access}
 use Rattle.trace.specs.declared.fault.LineFault.{LineFault}
 use Rattle.trace.specs.Texts.{Accesses}

@@ -1,4 +1,4 @@
-use Rattle.std.proofs.Common.{◌+◌, ◌<◌, length, sym, arith}
+use Rattle.std.proofs.Common.{sym, arith}
 use Rattle.trace.proofs.Running.{run_on, run-stops, run_ends}
 use Rattle.trace.proofs.reader.Reader.run_end.Goals as goal
 
