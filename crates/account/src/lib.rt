@@ -1,4 +1,6 @@
 // What the run of a text gives: its accesses performed, what stopped it, and what closing gave.
+#![tactic(auto)]
+
 mod account;
 mod step;
 mod stop;

@@ -1,4 +1,6 @@
 // The bus at work: the seven transactions and the accesses made of them, over caches, a memory and a tally.
+#![tactic(auto)]
+
 mod answer;
 mod bus;
 mod choice;

@@ -1,19 +1,18 @@
 -- What a place tells of the seat's copy of a line, and of its set.
-use Rattle.std.proofs.Common.{◌≡◌, ℕ, ◌%◌, ◌<◌, Bool, true, false, cond, not, ◌&&◌, ◌||◌, eqb, List, [], ◌∷◌, length, get_or, set, Some, None, Option, sym, refl, ap, ◌∙◌, subst, ⊎_elim, MatchOption}
-use Rattle.std.specs.Option.{option_to_list}
-use Rattle.std.proofs.lemmas.Bool.{cases_Bool, cond-true, cond-false, eq-eqb, ne_eqb, eqb-true, and_left, and_right, and_from, and_parts, both_ways, false≢true}
+use Rattle.std.proofs.Common.{◌≡◌, ℕ, ◌%◌, ◌<◌, Bool, true, false, cond, not, ◌&&◌, ◌||◌, eqb, List, [], ◌∷◌, get_or, sym, refl, ap, ◌∙◌, ⊎_elim}
+use Rattle.std.proofs.lemmas.Bool.{cases_Bool, cond-true, cond-false, eq-eqb, ne_eqb, and_left, and_parts, both_ways, false≢true}
 use Rattle.protocol.specs.declared.state.State.{State}
 use Rattle.protocol.specs.declared.state.State.TheVariants.{Invalid, Shared, Exclusive, Owned, Modified}
 use Rattle.protocol.specs.States.{valid}
 use Rattle.rules.specs.Columns.{Copy, kept, none, state_at, words_at}
-use Rattle.rules.specs.Caches.{Slot, Cache, has, gap, lowest, lines_of, set_of, look, room, victim, lines_at, stands}
+use Rattle.rules.specs.Caches.{Slot, has, gap, lowest, lines_of, look, room, victim, lines_at}
 use Rattle.rules.specs.Machines.{copies_of}
 use Rattle.rules.proofs.Machines.{column-at}
 use Rattle.caches.specs.declared.line.CacheLine.{CacheLine}
 use Rattle.caches.specs.declared.table.Caches.{Caches}
 use Rattle.caches.specs.Lines.{blank, copy_of, slot_of}
 use Rattle.caches.specs.Views.{caches_of}
-use Rattle.caches.proofs.Places.{stands_in, place_in, place-lt, single, single-at, look-place, look-stands, look-absent}
+use Rattle.caches.proofs.Places.{stands_in, place_in, single, single-at, look-place, look-stands, look-absent}
 
 -- the state of a seat's copy, told in both ways
 pub record StateIs (s : Caches) (k n : ℕ) (t : State) : Type 0 where

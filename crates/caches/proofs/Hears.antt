@@ -1,15 +1,15 @@
 -- The seats react in turn, and all together as the rules have it.
 --
 -- Going   the first k seats have reacted: what the caches are, and what of the answer is left to come
-use Rattle.std.proofs.Common.{◌≡◌, ℕ, zero, suc, ◌+◌, ◌%◌, ◌<◌, ◌≤◌, Bool, true, false, cond, eqb, ◌≢◌, List, [], ◌∷◌, ◌++◌, map, length, get_or, take, drop, set, sym, refl, ap, ◌∙◌, subst, ⊎_elim, zero-add, add-one, arith}
+use Rattle.std.proofs.Common.{◌≡◌, ℕ, suc, ◌+◌, ◌<◌, ◌≤◌, true, false, eqb, ◌≢◌, List, [], ◌∷◌, ◌++◌, length, get_or, take, drop, set, sym, refl, ap, ◌∙◌, subst, ⊎_elim, zero-add, add-one, arith}
 use Rattle.std.proofs.lemmas.Bool.{cases_eq, cases_Bool, both_ways, false≢true, and_parts}
 use Rattle.std.proofs.lemmas.List.{get_or_at, set_at, append_assoc, append-nil, take_more, drop_more, take_all, drop_all, length-take-le, length-set, length-map, get_or-set_same, get_or-set_other, set-get_or, ext_get_or}
 use Rattle.protocol.specs.declared.state.State.{State}
 use Rattle.protocol.specs.declared.state.State.TheVariants.{Invalid, Shared, Exclusive, Owned, Modified}
 use Rattle.protocol.specs.States.{valid}
-use Rattle.rules.specs.Columns.{Copy, kept, none, state_at, words_at}
+use Rattle.rules.specs.Columns.{Copy, none}
 use Rattle.rules.specs.Transactions.{hear}
-use Rattle.rules.specs.Caches.{Cache, look, room, put}
+use Rattle.rules.specs.Caches.{Cache, look, put}
 use Rattle.rules.specs.Machines.{copies_of, put_each}
 use Rattle.rules.proofs.Seats.{hear-at, length-hear}
 use Rattle.rules.proofs.Caches.{put-look, look-room}

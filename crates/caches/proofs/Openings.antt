@@ -1,11 +1,10 @@
 -- The table at opening: every place is empty.
-use Rattle.std.proofs.Common.{◌≡◌, ℕ, zero, suc, ◌%◌, ◌<◌, ◌≤◌, true, List, [], ◌∷◌, map, length, get_or, take, replicate, sym, refl, ap, ◌∙◌, subst, ⊎_elim, arith}
+use Rattle.std.proofs.Common.{◌≡◌, ℕ, zero, suc, ◌<◌, ◌≤◌, List, [], ◌∷◌, map, length, get_or, replicate, sym, refl, ap, ◌∙◌, ⊎_elim}
 use Rattle.std.proofs.lemmas.Bool.{cases_lt, false≢true}
-use Rattle.std.proofs.lemmas.List.{take-replicate, get_or-replicate, get_or_past, length-replicate}
-use Rattle.protocol.specs.declared.state.State.{State}
+use Rattle.std.proofs.lemmas.List.{take-replicate, get_or-replicate, get_or_past}
 use Rattle.protocol.specs.declared.state.State.TheVariants.{Invalid}
 use Rattle.protocol.specs.States.{valid}
-use Rattle.rules.specs.Caches.{Cache, Slot, fresh}
+use Rattle.rules.specs.Caches.{fresh}
 use Rattle.caches.specs.declared.line.CacheLine.{CacheLine}
 use Rattle.caches.specs.Lines.{blank, slot_of, Wide, Homed}
 use Rattle.caches.specs.Views.{row_view, table_view}

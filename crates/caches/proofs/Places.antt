@@ -1,16 +1,15 @@
 -- One place of the table and the cache that the rules see: what stands there, and what a change of it is to them.
-use Rattle.std.proofs.Common.{◌≡◌, ℕ, zero, suc, ◌+◌, ◌%◌, ◌<◌, ◌≤◌, Bool, true, false, cond, not, ◌&&◌, ◌||◌, eqb, ◌≢◌, ◌⊎◌, List, [], ◌∷◌, map, length, get_or, take, set, sym, refl, ap, ◌∙◌, subst, ⊎_elim, mod-lt, arith}
-use Rattle.std.proofs.lemmas.Bool.{cases_Bool, cases_eq, cond-true, cond-false, eq-eqb, ne_eqb, eqb-true, and_left, and_right, and_from, and_parts, or_cases, or_left, or_right, or_from, or_parts, not_from_false, not_from_true, not-true, both_ways, false≢true}
-use Rattle.std.proofs.lemmas.List.{map-set, length-map, length-take-le, get_or-map, get_or-take, get_or-set_same, get_or-set_other, length-set, set-get_or, get_or_past}
+use Rattle.std.proofs.Common.{◌≡◌, ℕ, zero, suc, ◌+◌, ◌%◌, ◌<◌, ◌≤◌, Bool, true, false, cond, not, ◌&&◌, ◌||◌, eqb, List, [], ◌∷◌, map, length, get_or, take, set, sym, refl, ap, ◌∙◌, subst, ⊎_elim, mod-lt, arith}
+use Rattle.std.proofs.lemmas.Bool.{cases_eq, cond-true, cond-false, false≢true}
+use Rattle.std.proofs.lemmas.List.{map-set, length-map, length-take-le, get_or-map, get_or-take, get_or-set_same, get_or-set_other, length-set}
 use Rattle.protocol.specs.declared.state.State.{State}
 use Rattle.protocol.specs.declared.state.State.TheVariants.{Invalid, Shared, Exclusive, Owned, Modified}
 use Rattle.protocol.specs.States.{valid}
-use Rattle.rules.specs.Columns.{Copy, kept, none, state_at, one}
-use Rattle.rules.specs.Caches.{Slot, Cache, stands, full, find, has, gap, put_in, lowest, lines_of, set_of, look, room, victim, put, lines_at}
+use Rattle.rules.specs.Columns.{Copy, kept, none, one}
+use Rattle.rules.specs.Caches.{Slot, Cache, stands, full, find, has, gap, put_in, set_of, look, room, put}
 use Rattle.rules.specs.Machines.{copies_of, put_each}
 use Rattle.rules.proofs.Sets.{times, tidy, find-put-same}
-use Rattle.rules.proofs.Caches.{length-put, look-room}
-use Rattle.rules.proofs.Machines.{column-at, put_each-one}
+use Rattle.rules.proofs.Machines.{put_each-one}
 use Rattle.caches.specs.declared.line.CacheLine.{CacheLine}
 use Rattle.caches.specs.declared.table.Caches.{Caches}
 use Rattle.caches.specs.Lines.{blank, copy_of, slot_of, Wide, Homed}

@@ -1,10 +1,10 @@
 -- A search over the seats, from seat k on: the first owner, and whether some seat holds the line.
-use Rattle.std.proofs.Common.{◌≡◌, ℕ, zero, suc, ◌+◌, ◌<◌, ◌≤◌, Bool, true, false, cond, not, ◌||◌, ◌≢◌, List, [], ◌∷◌, length, get_or, drop, set, Some, None, Option, sym, refl, ap, ◌∙◌, subst, add-one, arith}
+use Rattle.std.proofs.Common.{◌≡◌, ℕ, suc, ◌+◌, ◌<◌, ◌≤◌, Bool, true, false, not, ◌||◌, ◌≢◌, List, ◌∷◌, length, get_or, drop, set, Some, None, sym, ap, ◌∙◌, add-one, arith}
 use Rattle.std.proofs.lemmas.Bool.{cond-true, cond-false, or_left}
 use Rattle.std.proofs.lemmas.List.{drop_more, drop_all, length-set, length-map, get_or-set_other}
 use Rattle.protocol.specs.declared.state.State.{State}
 use Rattle.protocol.specs.States.{valid, owned}
-use Rattle.rules.specs.Columns.{Copy, none, some, alone, owner_from, owner_of, state_at}
+use Rattle.rules.specs.Columns.{Copy, none, some, alone, owner_from, state_at}
 use Rattle.rules.specs.Caches.{Cache, look}
 use Rattle.rules.specs.Machines.{copies_of}
 use Rattle.caches.specs.declared.table.Caches.{Caches}

@@ -1,15 +1,15 @@
 -- What a requester is told, seat by seat: the answer that grows with each seat says of all of them what the rules say.
 --
 -- sweep   the answer after the seats from k on have reacted, of their copies before and after
-use Rattle.std.proofs.Common.{◌≡◌, ℕ, zero, suc, ◌+◌, ◌<◌, ◌≤◌, Bool, true, false, cond, not, ◌&&◌, ◌||◌, ◌≢◌, List, [], ◌∷◌, ◌++◌, length, get_or, drop, set, is_some, Some, None, Option, sym, refl, ap, ◌∙◌, subst, add-zero, add_assoc, zero-add, add-one, arith}
+use Rattle.std.proofs.Common.{◌≡◌, ℕ, zero, suc, ◌+◌, ◌≤◌, Bool, true, false, cond, not, ◌&&◌, ◌||◌, ◌≢◌, List, [], ◌∷◌, ◌++◌, length, get_or, set, is_some, Some, None, Option, sym, refl, ap, ◌∙◌, add-zero, add_assoc, zero-add, add-one, arith}
 use Rattle.std.proofs.lemmas.Bool.{both_ways}
-use Rattle.std.proofs.lemmas.List.{get_or_at, get_or-set_other, append_assoc, length_push, length-set, drop_more}
+use Rattle.std.proofs.lemmas.List.{get_or_at, get_or-set_other, append_assoc, length_push, length-set}
 use Rattle.protocol.specs.declared.state.State.{State}
 use Rattle.protocol.specs.declared.state.State.TheVariants.{Invalid}
 use Rattle.protocol.specs.States.{valid, owned}
-use Rattle.rules.specs.Columns.{Copy, none, some, alone, owner_from, owner_of, supplied, state_at, one}
-use Rattle.rules.specs.Transactions.{is_o, leaves_o, reflects}
-use Rattle.rules.specs.Machines.{lost_in, lost}
+use Rattle.rules.specs.Columns.{Copy, none, some, owner_from, owner_of, supplied, state_at, one}
+use Rattle.rules.specs.Transactions.{is_o, leaves_o}
+use Rattle.rules.specs.Machines.{lost_in}
 use Rattle.rules.proofs.Seats.{owner_owns}
 use Rattle.caches.specs.declared.heeded.Heeded.{Heeded}
 use Rattle.caches.specs.Heeding.{Heeds, unheeded, noted}

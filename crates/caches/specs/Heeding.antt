@@ -3,7 +3,7 @@
 -- Heeds      the answer in the rules' words, of the copies before and after
 -- unheeded   the answer before any seat has reacted
 -- noted      the answer after one more seat has reacted: its copy before, its state after
-use Rattle.std.specs.Prelude.{◌≡◌, ℕ, ◌+◌, ◌≤◌, Bool, true, false, cond, not, ◌&&◌, ◌||◌, List, [], ◌∷◌, is_some, Some, None, Option, slice_set}
+use Rattle.std.specs.Prelude.{◌≡◌, ℕ, ◌+◌, ◌≤◌, Bool, false, cond, not, ◌&&◌, ◌||◌, List, [], ◌∷◌, is_some, Some, None, slice_set}
 use Rattle.protocol.specs.declared.state.State.{State}
 use Rattle.protocol.specs.States.{valid, owned}
 use Rattle.rules.specs.Columns.{Copy, none, alone, owner_of, one}

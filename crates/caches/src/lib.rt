@@ -1,4 +1,6 @@
 // The caches of all seats: the sizes agreed for a bus, the table of copies, and how copies react to what they hear.
+#![tactic(auto)]
+
 mod agreed;
 mod heard;
 mod heeded;

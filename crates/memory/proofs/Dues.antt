@@ -1,9 +1,9 @@
 -- When a refusal is due, and that the lines stay where one is.
-use Rattle.std.proofs.Common.{◌≡◌, ℕ, ◌<◌, ◌≤◌, cond, ◌⊎◌, List, [], length, get_or, set, Some, None, refl, ap, ◌∙◌, inl, inr, ⊎_elim, arith}
+use Rattle.std.proofs.Common.{◌≡◌, ℕ, ◌<◌, ◌≤◌, ◌⊎◌, List, [], length, get_or, set, Some, None, ap, ⊎_elim, arith}
 use Rattle.std.proofs.lemmas.List.{set_past, set-get_or}
 use Rattle.std.proofs.lemmas.Bool.{lt-ltb, le-ltb, and_from, and_left, and_right, cases_lt}
 use Rattle.refusal.specs.Refusals.{plain}
-use Rattle.memory.specs.Lines.{Shaped, unless, line_due, word_due, word_written, words_in_line}
+use Rattle.memory.specs.Lines.{Shaped, unless, line_due, word_due, word_written}
 
 module _ (lines : List (List ℕ)) (line : ℕ) where
   pub line-within : line < length lines → line_due lines line ≡ None

@@ -1,11 +1,11 @@
 -- A buffer as a memory: its lines are lawful, as many as below, and read where they wait or else below.
-use Rattle.std.specs.Prelude.{◌≡◌, ℕ, ◌<◌, ◌≤◌, false, List, [], length, Option, Result, slice_index_or, refl}
-use Rattle.std.proofs.Common.{sym, ap, ◌∙◌, arith}
-use Rattle.refusal.specs.Refusals.{Told, Answers}
+use Rattle.std.specs.Prelude.{◌≡◌, ℕ, false, List, [], length, Result, slice_index_or}
+use Rattle.std.proofs.Common.{ap, ◌∙◌, arith}
+use Rattle.refusal.specs.Refusals.{Answers}
 use Rattle.refusal.specs.declared.Refusal.{Refusal}
-use Rattle.memory.specs.Ages.{blank, holds, over}
+use Rattle.memory.specs.Ages.{holds}
 use Rattle.memory.specs.Buffers.{Buffer, buffer, seen}
-use Rattle.memory.specs.Lines.{Lawful, unless, line_due}
+use Rattle.memory.specs.Lines.{Lawful, line_due}
 use Rattle.memory.specs.Waits.{waiting_in}
 use Rattle.memory.specs.declared.queue.Queue.{Queue}
 use Rattle.memory.specs.declared.write_buffer.WriteBuffer.{WriteBuffer}

@@ -1,8 +1,8 @@
 -- Waiting lines put over the lines below: what a read finds, and what a write comes to.
-use Rattle.std.specs.Prelude.{◌≡◌, ℕ, zero, suc, ◌+◌, ◌<◌, ◌≤◌, Bool, true, false, cond, ◌||◌, List, [], ◌∷◌, ◌++◌, length, get_or, set, ◌==◌, ◌≢◌, nat_eq, slice_index_or, slice_set, refl}
+use Rattle.std.specs.Prelude.{◌≡◌, ℕ, zero, suc, ◌+◌, ◌<◌, true, false, List, [], ◌∷◌, ◌++◌, length, get_or, set, ◌==◌, ◌≢◌, nat_eq, slice_index_or, slice_set, refl}
 use Rattle.std.proofs.Common.{sym, ap, ◌∙◌, ⊎_elim, arith}
 use Rattle.std.proofs.lemmas.List.{get_or-set_same, get_or-set_other, length-set, set_comm, set_past, set-set}
-use Rattle.std.proofs.lemmas.Bool.{cases_Bool, cases_eq, cases_lt, cond-true, cond-false, eq-eqb, eqb-true, eqb-false, or_cases, or_left, or_right, or_parts, or_from, both_ways, cond_both, ne_eqb}
+use Rattle.std.proofs.lemmas.Bool.{cases_Bool, cases_eq, cases_lt, cond-true, eq-eqb, eqb-true, eqb-false, or_left, or_right, or_parts, both_ways, cond_both, ne_eqb}
 use Rattle.memory.specs.Ages.{Apart, blank, waits, with_words, full, holds, Newest, changed, over}
 use Rattle.memory.specs.Buffers.{Buffer, held_changed, seen, sent_from, room_made, come, line_taken, word_taken}
 use Rattle.memory.specs.Lines.{Shaped, Lawful, word_written, words_in_line}

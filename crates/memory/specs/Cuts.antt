@@ -1,9 +1,9 @@
 -- Words cut into lines: how many there are, what each holds, and what the write of one word changes.
-use Rattle.std.specs.Prelude.{◌≡◌, ℕ, zero, suc, ◌+◌, ◌-◌, ◌*◌, ◌/◌, ◌<◌, ◌≤◌, List, [], ◌∷◌, ◌++◌, length, get_or, take, drop, set, slice_index, slice_index_or, slice_set, refl}
+use Rattle.std.specs.Prelude.{◌≡◌, ℕ, zero, suc, ◌+◌, ◌-◌, ◌*◌, ◌<◌, ◌≤◌, List, [], ◌∷◌, ◌++◌, length, get_or, take, drop, set, slice_index, slice_index_or, slice_set, refl}
 use Rattle.std.proofs.Math.Path.{sym}
-use Rattle.std.proofs.Common.{ap, ◌∙◌, mul-zero, mul-suc, mul-le-mul_left, add_assoc, add_comm, arith}
+use Rattle.std.proofs.Common.{ap, ◌∙◌, mul-zero, mul-suc, mul-le-mul_left, arith}
 use Rattle.std.proofs.Math.Seq.{take-set-lt}
-use Rattle.std.proofs.lemmas.List.{take-append-drop, append_assoc, append-nil, drop-drop, drop_all, drop_more, drop-set, length-append, length-drop, length-take-le, get_or-drop, get_or-set_same, set-append_right, set-get_or, set-set, take_all, take_more, take_more_set, take-set-le, drop-set-lt, drop-set-add, length-set}
+use Rattle.std.proofs.lemmas.List.{take-append-drop, append_assoc, append-nil, drop-drop, drop_all, drop_more, length-drop, length-take-le, get_or-drop, get_or-set_same, set-append_right, set-get_or, set-set, take_all, take_more, take_more_set, take-set-le, drop-set-lt, drop-set-add, length-set}
 use Rattle.memory.specs.Lines.{Shaped, Lawful, word_written, words_in_line}
 use Rattle.memory.specs.Words.{whole, cut, lines_of, spare_of, flat}
 

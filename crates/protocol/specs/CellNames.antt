@@ -4,7 +4,7 @@
 -- cells       all of them, in that order
 -- cell_at      the cell at a place, where there is one
 -- cell_use     what the cell is for, in words
-use Rattle.std.specs.Prelude.{ℕ, cond, List, [], ◌∷◌, map, Some, None, codes, Option, slice_index_or}
+use Rattle.std.specs.Prelude.{ℕ, List, [], ◌∷◌, map, Some, None, codes, Option, slice_index_or}
 use Rattle.protocol.specs.declared.cell.Cell.{Cell}
 use Rattle.protocol.specs.declared.cell.Cell.TheVariants.{WriteAtInvalid, WriteAtShared, WriteAtOwned, FilledAlone, UpdatedAlone, ThroughUpdatedAloneAtShared, ThroughUpdatedAloneAtOwned, ThroughInvalidatedAtShared, ThroughInvalidatedAtOwned, ReadHeardAtShared, ReadHeardAtExclusive, ReadHeardAtOwned, ReadHeardAtModified, UpdateHeardAtShared, UpdateHeardAtOwned, ThroughUpdateHeardAtShared}
 

@@ -1,4 +1,6 @@
 // Coherence protocols: states, transactions, the cells of a table with their law, and four kinds of protocol.
+#![tactic(auto)]
+
 mod cell;
 mod flattened;
 mod interface;

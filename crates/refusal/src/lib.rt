@@ -1,4 +1,6 @@
 // The numbered refusals: one case for each condition under which a call answers no value.
+#![tactic(auto)]
+
 ghost use Rattle.std.specs.Prelude.{◌≡◌, ℕ};
 ghost use Rattle.refusal.specs.Refusals.{told, number, cell_of};
 

@@ -1,5 +1,5 @@
 -- What every step of a call keeps, and so what the tally counts of a call and what its records tell.
-use Rattle.std.proofs.Common.{◌≡◌, ℕ, zero, suc, ◌+◌, ◌/◌, ◌%◌, Bool, true, false, List, [], ◌∷◌, ◌++◌, length, get_or, set, Some, None, Option, sym, refl, ap, ◌∙◌, subst, add-zero}
+use Rattle.std.proofs.Common.{◌≡◌, ℕ, zero, suc, ◌+◌, ◌/◌, ◌%◌, Bool, true, false, List, [], ◌∷◌, ◌++◌, length, get_or, set, Some, None, Option, sym, refl, ap, ◌∙◌, add-zero}
 use Rattle.std.specs.List.{AllByRecursion as All}
 use Rattle.std.proofs.ByRecursion.{All-push}
 use Rattle.std.proofs.lemmas.Bool.{false≢true}
@@ -16,10 +16,10 @@ use Rattle.rules.specs.declared.record.Record.{Record}
 use Rattle.rules.specs.declared.tally.Tally.{Tally}
 use Rattle.rules.specs.Columns.{Copy, Column, none, one, owner_of}
 use Rattle.rules.specs.Caches.{room, victim, lines_at}
-use Rattle.rules.specs.Transactions.{Protocol, dropped, silent, read_shared, read_invalidate, invalidate, update, through_update, through_invalidate, write_back, reflects}
+use Rattle.rules.specs.Transactions.{Protocol, dropped, silent, read_shared, read_invalidate, invalidate, update, through_update, through_invalidate, write_back}
 use Rattle.rules.specs.Tallies.{counted, if_reflected, more_invalidated, tallied, one_displaced, one_flushed, one_read, one_write}
 use Rattle.rules.specs.Machines.{Machine, column, holds, lost, reflected_by, record_of, change, transact}
-use Rattle.rules.specs.Accesses.{counting, state_in, written_back_if, let_go, emptied_if, emptied, flushed_if, flushed, filled, fetched_if, fetched, owner_writes_back, saved_from, through, sent_by, written_at, written_held, missed_by, written_if, written, flushed_each, flushed_set, flushed_sets, flushed_seat, flushed_seats, settled}
+use Rattle.rules.specs.Accesses.{counting, state_in, written_back_if, let_go, emptied_if, emptied, flushed_if, flushed, filled, fetched_if, fetched, owner_writes_back, saved_from, through, sent_by, written_at, written_held, missed_by, written_if, written, flushed_each, flushed_set, flushed_sets, flushed_seats, settled}
 use Rattle.rules.specs.Systems.{System, at_work, reached, due_in, outcome_if, outcome}
 use Rattle.rules.specs.Laws.{ByReading, moves, forward, transactions_of, one_more, one_reflected, one_filled, never, always, accessed}
 

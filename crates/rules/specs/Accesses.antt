@@ -7,7 +7,7 @@
 -- written   a write, by the seat's state and its cells 0, 1, 2
 -- flushed   a seat drops its copy of a line, if it holds one
 -- settled   every seat drops every copy, seats upward, sets upward, ways upward
-use Rattle.std.specs.Prelude.{ℕ, zero, suc, Bool, true, false, List, [], ◌∷◌, length, set, Some, None, Option, slice_index_or, slice_set}
+use Rattle.std.specs.Prelude.{ℕ, zero, suc, Bool, true, false, List, [], ◌∷◌, length, Some, None, Option, slice_index_or, slice_set}
 use Rattle.protocol.specs.declared.state.State.{State}
 use Rattle.protocol.specs.declared.state.State.TheVariants.{Invalid, Shared, Exclusive, Owned, Modified}
 use Rattle.protocol.specs.declared.transaction.Transaction.{Transaction}

@@ -7,7 +7,7 @@
 -- put       the seat's copy of a line is now this one
 -- held_in    how many copies the seat holds
 -- lines_at   the lines that stand in a set, ways upward
-use Rattle.std.specs.Prelude.{ℕ, ◌+◌, ◌%◌, Bool, false, cond, not, ◌&&◌, ◌||◌, List, [], ◌∷◌, length, set, replicate, ◌==◌, slice_index_or, slice_set}
+use Rattle.std.specs.Prelude.{ℕ, ◌+◌, ◌%◌, Bool, false, cond, not, ◌&&◌, ◌||◌, List, [], ◌∷◌, length, replicate, ◌==◌, slice_index_or, slice_set}
 use Rattle.protocol.specs.States.{valid}
 use Rattle.rules.specs.Columns.{Copy, none, one}
 

@@ -1,4 +1,6 @@
 // The rules of the bus: what each transaction, access and call does, the ledger beside a run, and what is proved of them.
+#![tactic(auto)]
+
 ghost use Rattle.rules.specs.Coherence.{Coherence};
 ghost use Rattle.rules.specs.Deciding.{Deciding};
 ghost use Rattle.rules.specs.Laws.{BusLaws};

@@ -1,7 +1,7 @@
 -- What holds where every check of a call has passed.
-use Rattle.std.proofs.Common.{◌≡◌, ℕ, ◌+◌, ◌*◌, ◌/◌, ◌<◌, ◌≤◌, List, length, Some, None, Option, arith}
+use Rattle.std.proofs.Common.{◌≡◌, ℕ, ◌/◌, ◌<◌, ◌≤◌, length, None, arith}
 use Rattle.std.proofs.lemmas.Bool.Decides.{nat_tests}
-use Rattle.rules.specs.Systems.{System, due_in, due_access}
+use Rattle.rules.specs.Systems.{System, due_in}
 use Rattle.rules.specs.declared.call.Call.TheVariants.{Settle}
 use Rattle.run.specs.Calls.{access_due}
 

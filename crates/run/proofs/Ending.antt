@@ -1,5 +1,5 @@
 -- A closed run squares with its ledger.
-use Rattle.std.proofs.Common.{◌≡◌, ℕ, ◌+◌, List, [], length, sym, refl, ap, ◌∙◌, subst}
+use Rattle.std.proofs.Common.{◌≡◌, ℕ, List, length, sym, refl, subst}
 use Rattle.rules.specs.declared.tally.Tally.{Tally}
 use Rattle.rules.specs.Accesses.{settled}
 use Rattle.rules.specs.Systems.{System, at_work, closed}

@@ -1,5 +1,5 @@
 -- The record places of an access: the records made stand first.
-use Rattle.std.proofs.Common.{◌≡◌, ℕ, ◌≤◌, List, ◌++◌, length, take, drop, sym, refl, ap, ◌∙◌, arith, take-append-drop, length-take-le}
+use Rattle.std.proofs.Common.{◌≡◌, ℕ, ◌≤◌, List, ◌++◌, length, take, drop, sym, ap, ◌∙◌, take-append-drop, length-take-le}
 use Rattle.rules.specs.declared.record.Record.{Record}
 
 module _ (made : ℕ) (given left : List Record) (few : made ≤ length left) where

@@ -1,16 +1,16 @@
 -- A call that does what the rules say joins every history of its run.
-use Rattle.std.proofs.Common.{◌≡◌, ℕ, ◌*◌, Some, None, Ok, Err, Option, Result, sym, refl, ap, ◌∙◌, subst, arith}
+use Rattle.std.proofs.Common.{◌≡◌, ℕ, ◌*◌, Some, None, Ok, Err, Option, Result, sym, refl, ◌∙◌, subst, arith}
 use Rattle.refusal.specs.declared.Refusal.{Refusal}
 use Rattle.refusal.specs.Refusals.{Told, Answers, Answered}
 use Rattle.rules.specs.declared.call.Call.{Call}
 use Rattle.rules.specs.declared.call.Call.TheVariants.{Read, Write, Flush, Settle}
 use Rattle.rules.specs.Systems.{System, due, due_in, outcome_if, outcome}
 use Rattle.rules.specs.Ledgers.{Ledger, entered}
-use Rattle.rules.specs.Coherence.{Sizes, addresses, Since, calling, Equals, Promise}
+use Rattle.rules.specs.Coherence.{Since, calling, Equals, Promise}
 use Rattle.rules.proofs.Promises.{since-promised}
 use Rattle.run.specs.declared.reply.Reply.{Reply}
 use Rattle.run.specs.Views.{sizes}
-use Rattle.run.specs.Histories.{Owed, Joined, Keeps}
+use Rattle.run.specs.Histories.{Owed, Keeps}
 use Rattle.run.specs.Calls.{reply_of}
 
 -- an answered write gives its value

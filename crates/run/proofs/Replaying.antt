@@ -1,9 +1,9 @@
 -- A list of calls made one after another: the history and the ledger, step by step.
-use Rattle.std.proofs.Common.{◌≡◌, ℕ, zero, suc, ◌+◌, ◌-◌, ◌*◌, ◌<◌, ◌≤◌, min, ltb, ◌≢◌, List, [], ◌∷◌, map, length, get_or, take, set, Some, None, Option, Result, sym, refl, ap, ◌∙◌, subst, add-one, arith, length-take, below_more}
+use Rattle.std.proofs.Common.{◌≡◌, ℕ, zero, suc, ◌+◌, ◌-◌, ◌<◌, min, ltb, List, [], ◌∷◌, length, get_or, take, set, Some, None, Option, Result, sym, refl, ap, ◌∙◌, subst, add-one, arith, length-take, below_more}
 use lib.ListN.{length-map}
 use Rattle.std.proofs.lemmas.Bool.Decides.{nat_tests}
 use Rattle.refusal.specs.declared.Refusal.{Refusal}
-use Rattle.refusal.specs.Refusals.{Told, plain, Answers}
+use Rattle.refusal.specs.Refusals.{Told, Answers}
 use Rattle.rules.specs.declared.call.Call.{Call}
 use Rattle.rules.specs.declared.call.Call.TheVariants.{Read, Write, Flush, Settle}
 use Rattle.rules.specs.declared.record.Record.{Record}

@@ -1,16 +1,15 @@
 -- Every step of a replay keeps the promise, and its closing squares with the ledger.
-use Rattle.std.proofs.Common.{◌≡◌, ℕ, suc, ◌+◌, ◌*◌, ◌<◌, List, [], length, get_or, take, Some, None, Option, Result, sym, refl, ap, ◌∙◌, subst, add-one, arith}
+use Rattle.std.proofs.Common.{◌≡◌, ℕ, ◌+◌, ◌*◌, ◌<◌, List, length, get_or, take, Some, None, Option, Result, refl, ap, ◌∙◌, add-one, arith}
 use lib.ListN.{length-map}
 use Rattle.refusal.specs.declared.Refusal.{Refusal}
 use Rattle.refusal.specs.Refusals.{Answers, Answered}
 use Rattle.protocol.specs.Cells.{Lawful}
 use Rattle.memory.specs.Lines.{Shaped}
-use Rattle.rules.specs.declared.call.Call.{Call}
 use Rattle.rules.specs.declared.tally.Tally.{Tally}
 use Rattle.rules.specs.Transactions.{Protocol}
-use Rattle.rules.specs.Systems.{System, opened, due, due_in, outcome, after, closed}
-use Rattle.rules.specs.Ledgers.{Ledger, begun, entered, ledger_after}
-use Rattle.rules.specs.Coherence.{Sizes, addresses, Since, Promise}
+use Rattle.rules.specs.Systems.{System, opened, due, due_in, outcome, closed}
+use Rattle.rules.specs.Ledgers.{Ledger, begun, entered}
+use Rattle.rules.specs.Coherence.{Sizes, Since, Promise}
 use Rattle.rules.proofs.Promises.{since-promised, since-calls}
 use Rattle.caches.specs.declared.agreed.Agreed.{Agreed}
 use Rattle.run.specs.declared.reply.Reply.{Reply}

@@ -8,7 +8,7 @@
 -- Replayed    the promise over the whole run
 -- stood, ledger_then   the history and the ledger of a list of calls
 -- Replays     the promise for a protocol and a memory as they were handed in
-use Rattle.std.specs.Prelude.{◌≡◌, ℕ, ◌+◌, ◌*◌, ◌<◌, Bool, true, false, ◌≢◌, List, [], ◌∷◌, map, length, take, Some, None, Option, Result, slice_index_or}
+use Rattle.std.specs.Prelude.{◌≡◌, ℕ, ◌+◌, ◌*◌, ◌<◌, true, false, ◌≢◌, List, map, length, take, Some, None, Option, Result, slice_index_or}
 use Rattle.refusal.specs.declared.Refusal.{Refusal}
 use Rattle.refusal.specs.Refusals.{Answers, Answered}
 use Rattle.protocol.specs.States.{valid, exclusive, owned}

@@ -1,4 +1,6 @@
 // A run: caches on a bus over a memory, opened with agreed sizes, called, and closed with its ticket.
+#![tactic(auto)]
+
 mod closed;
 mod place;
 mod replays;

@@ -1,4 +1,6 @@
 // tablecheck: for each line of standard input, a protocol's name or a table, whether it is accepted, and what it says.
+#![tactic(auto)]
+
 mod lines;
 mod report;
 mod word;

@@ -1,5 +1,5 @@
 -- Each turn makes one call more, and what closing gives squares with the ledger after them all.
-use Rattle.std.proofs.Common.{◌≡◌, ℕ, ◌<◌, length, sym, refl, ap, ◌∙◌, subst, arith}
+use Rattle.std.proofs.Common.{◌≡◌, length, ap, ◌∙◌, arith}
 use Rattle.rules.specs.Systems.{System, closed}
 use Rattle.run.proofs.Replaying.{no_progress, more-progress, last-system, all-replies}
 use Rattle.run.proofs.Wholes.{whole}

@@ -1,4 +1,4 @@
-use Rattle.std.proofs.Common.{◌≡◌, ◌-◌, length, rules}
+use Rattle.std.proofs.Common.{◌≡◌, length, rules}
 use Rattle.account.proofs.Fronts.{front}
 use Rattle.account.proofs.step.Step.records.Goals as goal
 

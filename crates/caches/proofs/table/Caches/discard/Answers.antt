@@ -1,7 +1,6 @@
 -- The copy in the line's place goes, if it is the line's.
-use Rattle.std.proofs.Common.{◌%◌, [], get_or, refl, ◌∙◌}
+use Rattle.std.proofs.Common.{[], get_or, refl}
 use Rattle.protocol.specs.declared.state.State.TheVariants.{Invalid}
-use Rattle.rules.specs.Caches.{Cache}
 use Rattle.caches.specs.declared.line.CacheLine.{CacheLine}
 use Rattle.caches.specs.Lines.{blank}
 use Rattle.caches.specs.Views.{caches_of, table_view}

@@ -1,5 +1,5 @@
 -- The held copy in the line's place has reacted, and what is told of it is noted.
-use Rattle.std.proofs.Common.{◌≡◌, ◌%◌, true, eqb, [], get_or, sym, refl, ap, ◌∙◌}
+use Rattle.std.proofs.Common.{eqb, [], get_or, sym, refl, ap, ◌∙◌}
 use Rattle.std.proofs.lemmas.Bool.{and_parts}
 use Rattle.protocol.specs.declared.state.State.{State}
 use Rattle.protocol.specs.States.{valid}
@@ -8,7 +8,6 @@ use Rattle.caches.specs.Lines.{blank, copy_of}
 use Rattle.caches.specs.Hearing.{reaction}
 use Rattle.caches.specs.Heeding.{noted}
 use Rattle.caches.specs.Views.{caches_of}
-use Rattle.caches.proofs.Places.{stands_in}
 use Rattle.caches.proofs.Finds.{state-at, held-stands, held-look}
 use Rattle.caches.proofs.Moves.{bounds, own_home, held-tag, heeding}
 use Rattle.caches.proofs.table.Caches.heed.Goals as goal

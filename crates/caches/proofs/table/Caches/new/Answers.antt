@@ -1,5 +1,5 @@
 -- Every place is empty, and the sizes are the agreed ones.
-use Rattle.std.proofs.Common.{◌≡◌, ℕ, ◌<◌, ◌≤◌, true, replicate, sym, refl, ap, ◌∙◌, subst}
+use Rattle.std.proofs.Common.{◌≡◌, ℕ, ◌≤◌, true, replicate, sym, refl, ap, ◌∙◌, subst}
 use Rattle.protocol.specs.Cells.{among}
 use Rattle.rules.specs.Caches.{fresh}
 use Rattle.caches.specs.Sizes.{set_counts}

@@ -1,5 +1,5 @@
 -- Another line in the place has to go; an empty place, or the line's own, is room.
-use Rattle.std.proofs.Common.{◌≡◌, ℕ, true, [], get_or, Some, None, sym, ap, ◌∙◌}
+use Rattle.std.proofs.Common.{◌≡◌, true, [], get_or, Some, None, sym, ap, ◌∙◌}
 use Rattle.std.proofs.lemmas.Bool.{cond-true, cond-false}
 use Rattle.rules.specs.Caches.{room, victim}
 use Rattle.caches.specs.Views.{caches_of}

@@ -1,5 +1,5 @@
 -- The first owner met is the first of all, and where none is met there is none.
-use Rattle.std.proofs.Common.{◌≡◌, ◌+◌, false, sym, refl, ◌∙◌}
+use Rattle.std.proofs.Common.{◌≡◌, false, sym, refl, ◌∙◌}
 use Rattle.protocol.specs.States.{owned}
 use Rattle.rules.specs.Columns.{state_at}
 use Rattle.caches.proofs.Searches.{others, passed, skipped, owner_here, owner-next, owner-past}

@@ -1,5 +1,5 @@
 -- The line takes its place, which had room.
-use Rattle.std.proofs.Common.{◌%◌, refl}
+use Rattle.std.proofs.Common.{refl}
 use Rattle.caches.specs.declared.line.CacheLine.{CacheLine}
 use Rattle.caches.specs.Views.{caches_of}
 use Rattle.caches.proofs.Moves.{bounds, own_home, placed}

@@ -1,5 +1,5 @@
 -- The mask gives the place.
-use Rattle.std.proofs.Common.{◌≡◌, ℕ, ◌-◌, ◌%◌, ◌<◌, sym, subst, mod-lt}
+use Rattle.std.proofs.Common.{◌≡◌, ℕ, ◌-◌, ◌%◌, ◌<◌, sym, subst}
 use lib.Bits.{bit_and}
 use Rattle.caches.proofs.Masks.{listed-mask}
 use Rattle.caches.proofs.Places.{place-lt}

@@ -1,6 +1,5 @@
 -- The seats react one after the other, and the requester's own copy stays.
-use Rattle.std.proofs.Common.{◌≡◌, ◌+◌, ◌<◌, ◌≤◌, List, length, sym, refl, ap, ◌∙◌, subst, arith}
-use Rattle.rules.specs.Caches.{Cache}
+use Rattle.std.proofs.Common.{◌≡◌, ◌+◌, ◌<◌, ◌≤◌, sym, ap, ◌∙◌, subst, arith}
 use Rattle.rules.specs.Machines.{copies_of}
 use Rattle.caches.specs.declared.table.Caches.{Caches}
 use Rattle.caches.specs.declared.heeded.Heeded.{Heeded}

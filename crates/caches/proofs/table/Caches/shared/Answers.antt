@@ -1,5 +1,5 @@
 -- A holder met is another seat's, and where none is met there is none.
-use Rattle.std.proofs.Common.{◌≡◌, ◌+◌, true, false, sym, refl, ◌∙◌}
+use Rattle.std.proofs.Common.{◌≡◌, true, false, sym, refl, ◌∙◌}
 use Rattle.protocol.specs.States.{valid}
 use Rattle.rules.specs.Columns.{state_at}
 use Rattle.rules.specs.Machines.{copies_of}

@@ -1,5 +1,5 @@
 -- A seat with no copy of the line stays as it is.
-use Rattle.std.proofs.Common.{◌≡◌, false, sym, refl, ap, ◌∙◌}
+use Rattle.std.proofs.Common.{sym, refl, ap, ◌∙◌}
 use Rattle.protocol.specs.States.{valid}
 use Rattle.caches.proofs.Hears.{still}
 use Rattle.caches.proofs.table.Caches.turn.Goals as goal

@@ -1,5 +1,5 @@
 -- The held copy in the line's place changes.
-use Rattle.std.proofs.Common.{◌%◌, refl, ◌∙◌}
+use Rattle.std.proofs.Common.{refl, ◌∙◌}
 use Rattle.caches.specs.Views.{caches_of}
 use Rattle.caches.proofs.Moves.{bounds, own_home, held-tag, rewritten}
 use Rattle.caches.proofs.table.Caches.write.Goals as goal

@@ -1,7 +1,7 @@
-use Rattle.std.proofs.Common.{◌≡◌, ◌<◌, [], length, get_or, set, sym, ap, ◌∙◌, arith, rules}
+use Rattle.std.proofs.Common.{◌≡◌, length, get_or, ap, ◌∙◌, arith, rules}
 use Rattle.memory.specs.Lines.{word_written}
 use Rattle.memory.specs.Words.{lines_of}
-use Rattle.memory.specs.Cuts.{length-lines, line-wide, line-none, line-more, line-all, partly}
+use Rattle.memory.specs.Cuts.{length-lines, line-wide, line-none, line-more, line-all}
 use Rattle.memory.proofs.plain_memory.Plain.put_line.Goals as goal
 
 pub loop-word-init : goal.loop-word-init

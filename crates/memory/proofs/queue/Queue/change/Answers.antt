@@ -1,4 +1,4 @@
-use Rattle.std.proofs.Common.{◌≡◌, length, get_or, set, ◌∙◌, arith}
+use Rattle.std.proofs.Common.{get_or, set, ◌∙◌, arith}
 use Rattle.std.proofs.lemmas.List.{length-set}
 use Rattle.memory.specs.Ages.{blank, with_words}
 use Rattle.memory.specs.Tables.{front_long, front-set, apart-changed, wide-set}

@@ -1,4 +1,4 @@
-use Rattle.std.proofs.Common.{◌≤◌, length, arith}
+use Rattle.std.proofs.Common.{arith}
 use Rattle.memory.specs.Tables.{none_yet, none_here, newest-here}
 use Rattle.memory.proofs.queue.Queue.find.Goals as goal
 

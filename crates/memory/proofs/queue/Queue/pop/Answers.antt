@@ -1,4 +1,4 @@
-use Rattle.std.proofs.Common.{◌-◌, List, take, sym, ap, ◌∙◌, subst, arith, rules}
+use Rattle.std.proofs.Common.{◌-◌, List, take, sym, subst, arith, rules}
 use Rattle.memory.specs.Ages.{Apart, blank}
 use Rattle.memory.specs.declared.queue.Waiting.{Waiting}
 use Rattle.memory.specs.Tables.{apart-turned, take-turned}

@@ -1,4 +1,4 @@
-use Rattle.std.proofs.Common.{◌≡◌, ◌<◌, ◌≤◌, length, take, ◌∙◌, arith, rules}
+use Rattle.std.proofs.Common.{◌≡◌, length, take, ◌∙◌, arith, rules}
 use Rattle.std.proofs.lemmas.Bool.{eqb-false}
 use Rattle.std.proofs.lemmas.List.{take_more_set, length-set}
 use Rattle.memory.specs.Ages.{waits}

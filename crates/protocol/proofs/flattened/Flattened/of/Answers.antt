@@ -1,5 +1,5 @@
 -- One seat more is written, and all eight answer as the protocol does.
-use Rattle.std.proofs.Common.{◌≡◌, ℕ, length, subst, arith, rules}
+use Rattle.std.proofs.Common.{◌≡◌, length, subst, arith, rules}
 use Rattle.protocol.proofs.Rows.{Written, written-more, written-alike, alike-lawful}
 use Rattle.protocol.proofs.flattened.Flattened.of.Goals as goal
 

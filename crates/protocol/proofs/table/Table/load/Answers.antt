@@ -1,5 +1,5 @@
 -- A table is accepted just when its cells keep the law.
-use Rattle.std.proofs.Common.{◌≡◌, ℕ, true, false, List, sym, refl, subst, inr, arith, rules}
+use Rattle.std.proofs.Common.{◌≡◌, ℕ, List, sym, refl, subst, inr, arith}
 use Rattle.protocol.specs.Tables.{EachKeeps}
 use Rattle.protocol.proofs.Firsts.{refusal-none, refusal-first, no_fault, table-lawful}
 use Rattle.protocol.proofs.table.Table.load.Goals as goal

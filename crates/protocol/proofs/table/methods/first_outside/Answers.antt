@@ -1,5 +1,5 @@
 -- One cell more keeps the law: it was tested.
-use Rattle.std.proofs.Common.{◌≡◌, true, sym, ◌∙◌, rules, below_more}
+use Rattle.std.proofs.Common.{sym, ◌∙◌, below_more}
 use Rattle.protocol.proofs.table.methods.first_outside.Goals as goal
 
 pub loop-cell-preserved : goal.loop-cell-preserved

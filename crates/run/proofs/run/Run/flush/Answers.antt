@@ -1,5 +1,5 @@
 -- A flush: the checks passed, and the lines written are as many as the records.
-use Rattle.std.proofs.Common.{◌≡◌, ℕ, ◌+◌, ◌*◌, ◌/◌, ◌<◌, ◌≤◌, length, sym, refl, ap, ◌∙◌, mod-lt, arith}
+use Rattle.std.proofs.Common.{ℕ, ◌*◌, ◌≤◌, length, sym, refl, ap, ◌∙◌, arith}
 use Rattle.std.proofs.lemmas.Result.{err_from_is_err_and}
 use Rattle.rules.specs.declared.call.Call.TheVariants.{Flush}
 use Rattle.rules.specs.Accesses.{flushed}
@@ -7,7 +7,7 @@ use Rattle.rules.specs.Systems.{at_work}
 use Rattle.bus.specs.Totals.{total}
 use Rattle.caches.proofs.Places.{caches-long}
 use Rattle.run.specs.Views.{system_of}
-use Rattle.run.proofs.Clearing.{calls-left, seat-on, line-below, places-enough}
+use Rattle.run.proofs.Clearing.{calls-left, seat-on, places-enough}
 use Rattle.run.proofs.Filling.{made-long}
 use Rattle.run.proofs.Answering.{refused-call, access-call}
 use Rattle.run.proofs.run.Run.flush.Goals as goal

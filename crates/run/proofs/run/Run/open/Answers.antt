@@ -1,10 +1,10 @@
 -- The caches are empty and nothing is counted: the run is as the rules open it, and a history begins.
-use Rattle.std.proofs.Common.{◌≡◌, length, sym, refl, subst}
-use Rattle.rules.specs.Systems.{System, opened}
+use Rattle.std.proofs.Common.{length, sym, refl, subst}
+use Rattle.rules.specs.Systems.{System}
 use Rattle.rules.specs.Ledgers.{begun}
 use Rattle.rules.specs.Coherence.{Since}
 use Rattle.rules.proofs.Promises.{since-promised}
-use Rattle.run.specs.Views.{system_of, sizes}
+use Rattle.run.specs.Views.{sizes}
 use Rattle.run.proofs.Beginning.{begins, as-opened}
 use Rattle.run.proofs.run.Run.open.Goals as goal
 

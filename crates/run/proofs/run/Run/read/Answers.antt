@@ -1,5 +1,5 @@
 -- A read: the checks passed, the bus fetched the line, and the word stands in the seat's copy.
-use Rattle.std.proofs.Common.{◌≡◌, ℕ, ◌+◌, ◌*◌, ◌/◌, ◌<◌, ◌≤◌, length, get_or, sym, refl, ap, ◌∙◌, mod-lt, arith}
+use Rattle.std.proofs.Common.{ℕ, ◌*◌, ◌/◌, ◌≤◌, length, get_or, refl, ap, ◌∙◌, mod-lt, arith}
 use Rattle.std.proofs.lemmas.Result.{err_from_is_err_and}
 use Rattle.rules.specs.declared.call.Call.TheVariants.{Read}
 use Rattle.rules.specs.Columns.{words_at}
@@ -12,7 +12,6 @@ use Rattle.bus.specs.Totals.{total}
 use Rattle.caches.proofs.Places.{caches-long}
 use Rattle.run.specs.Views.{system_of}
 use Rattle.run.proofs.Clearing.{calls-left, seat-on, line-below, places-enough}
-use Rattle.run.proofs.Filling.{made-long}
 use Rattle.run.proofs.Answering.{refused-call, access-call}
 use Rattle.run.proofs.run.Run.read.Goals as goal
 

@@ -1,5 +1,5 @@
 -- A write: the checks passed, and the bus wrote.
-use Rattle.std.proofs.Common.{◌≡◌, ℕ, ◌+◌, ◌*◌, ◌/◌, ◌<◌, ◌≤◌, length, sym, refl, ap, ◌∙◌, mod-lt, arith}
+use Rattle.std.proofs.Common.{ℕ, ◌*◌, ◌/◌, ◌≤◌, length, refl, ap, ◌∙◌, mod-lt, arith}
 use Rattle.std.proofs.lemmas.Result.{err_from_is_err_and}
 use Rattle.rules.specs.declared.call.Call.TheVariants.{Write}
 use Rattle.rules.specs.Tallies.{one_write}
@@ -10,7 +10,6 @@ use Rattle.bus.specs.Totals.{total}
 use Rattle.caches.proofs.Places.{caches-long}
 use Rattle.run.specs.Views.{system_of}
 use Rattle.run.proofs.Clearing.{calls-left, seat-on, line-below, places-enough}
-use Rattle.run.proofs.Filling.{made-long}
 use Rattle.run.proofs.Answering.{refused-call, access-call}
 use Rattle.run.proofs.run.Run.write.Goals as goal
 

@@ -1,5 +1,5 @@
 -- Past the last cell a row has nothing.
-use Rattle.std.proofs.Common.{◌≡◌, ◌%◌, ◌<◌, ◌≤◌, [], length, get_or, sym, mod-lt, arith}
+use Rattle.std.proofs.Common.{◌≡◌, ◌%◌, ◌≤◌, [], length, get_or, sym, mod-lt, arith}
 use Rattle.std.proofs.lemmas.List.{get_or_past}
 use Rattle.protocol.proofs.flattened.methods.FlattenedProtocol.cell.Goals as goal
 
