@@ -1,9 +1,8 @@
 -- What the accesses of a text owe the ledger.
-use Rattle.std.proofs.Common.{◌≡◌, ℕ, ◌<◌, List, [], ◌∷◌, Some, None, Option, sym, refl, ap, ◌∙◌, subst, arith}
-use Rattle.rules.specs.declared.call.Call.{Call}
-use Rattle.rules.specs.Systems.{System, due_in, outcome, outcome_if, closed}
+use Rattle.std.proofs.Common.{◌≡◌, ℕ, List, None, Option, ap}
+use Rattle.rules.specs.Systems.{System, due_in, outcome, outcome_if}
 use Rattle.rules.specs.Ledgers.{Ledger, ledger_after}
-use Rattle.rules.specs.Coherence.{Sizes, addresses, Since, calling, Equals}
+use Rattle.rules.specs.Coherence.{addresses, Since, calling}
 use Rattle.rules.proofs.Promises.{since-promised}
 use Rattle.run.specs.Views.{sizes}
 use Rattle.trace.specs.declared.access.Access.{Access}

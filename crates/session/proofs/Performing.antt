@@ -1,5 +1,5 @@
 -- One access performed, as the rules have it.
-use Rattle.std.proofs.Common.{◌≡◌, ℕ, ◌+◌, ◌-◌, ◌*◌, ◌/◌, ◌<◌, ◌≤◌, List, [], ◌∷◌, ◌++◌, map, length, take, drop, Some, None, Ok, Err, Option, Result, sym, refl, ap, ◌∙◌, subst, append_assoc, arith, length-append, length-drop}
+use Rattle.std.proofs.Common.{◌≡◌, ℕ, ◌*◌, ◌/◌, ◌<◌, List, [], ◌∷◌, ◌++◌, map, length, take, drop, Some, None, Ok, Err, Option, sym, refl, ap, ◌∙◌, subst, arith, length-append, length-drop}
 use lib.Seq.{take-append_seam}
 use Rattle.refusal.specs.declared.Refusal.{Refusal}
 use Rattle.refusal.specs.Refusals.{Told}
@@ -25,7 +25,7 @@ use Rattle.trace.specs.Written.{written}
 use Rattle.trace.proofs.Accessing.{access-grammar}
 use Rattle.account.specs.declared.step.Step.{Step}
 use Rattle.account.specs.Accounts.{Performed, performed}
-use Rattle.session.specs.Plays.{call_of, states_on, states_of, performed_on, Plays, ends, unsound, refuses, performs, History}
+use Rattle.session.specs.Plays.{call_of, states_on, states_of, Plays, ends, unsound, refuses, performs, History}
 use Rattle.session.specs.declared.turn.Turn.{Turn}
 use Rattle.session.specs.declared.turn.Turn.TheVariants.{Performed as Turned, Ended, Stopped}
 use Rattle.session.specs.Steps.{Makes, Made, MadeNext, Led, Next}

@@ -1,5 +1,5 @@
 -- A text gives one outcome at most.
-use Rattle.std.proofs.Common.{◌≡◌, ℕ, ◌+◌, ◌<◌, ◌≤◌, List, [], ◌∷◌, length, Some, None, Ok, Err, Option, sym, refl, ap, ◌∙◌, subst, arith}
+use Rattle.std.proofs.Common.{◌≡◌, ℕ, List, ◌∷◌, Some, None, Ok, Err, Option, sym, refl, ap, ◌∙◌, subst, arith}
 use Rattle.std.specs.Option.{option_map}
 use Rattle.refusal.specs.Refusals.{Told}
 use Rattle.rules.specs.Systems.{System, due_in, outcome, closed}
@@ -7,8 +7,7 @@ use Rattle.trace.specs.declared.access.Access.{Access}
 use Rattle.trace.specs.declared.bus_line.BusLine.{BusLine}
 use Rattle.trace.specs.declared.fault.LineFault.{LineFault}
 use Rattle.trace.specs.Faults.{Stop, line_stop}
-use Rattle.trace.specs.Lines.{access_at, bus_at}
-use Rattle.trace.specs.Texts.{open_stop}
+use Rattle.trace.specs.Lines.{access_at}
 use Rattle.account.specs.Accounts.{Performed, Outcome, refused, ran}
 use Rattle.session.specs.Plays.{call_of, performed_on, Plays, ends, unsound, refuses, performs}
 use Rattle.session.specs.Texts.{Gives, stopped, played, halt_at, begun_by}

@@ -1,5 +1,5 @@
 -- The account of a whole text.
-use Rattle.std.proofs.Common.{◌≡◌, ℕ, ◌+◌, cond, ltb, List, map, length, get_or, replicate, Some, None, Ok, Err, vec_items, Option, sym, refl, ap, ◌∙◌, subst}
+use Rattle.std.proofs.Common.{◌≡◌, ℕ, cond, ltb, List, map, get_or, replicate, Some, None, Ok, vec_items, Option, sym, ap, ◌∙◌, subst}
 use lib.ListN.{length-replicate}
 use Rattle.std.specs.Option.{option_map}
 use Rattle.rules.specs.Transactions.{Protocol}
@@ -14,7 +14,7 @@ use Rattle.trace.specs.declared.bus_line.Second.{Second}
 use Rattle.trace.specs.declared.fault.TraceFault.{TraceFault}
 use Rattle.trace.specs.declared.setup.Division.{Division}
 use Rattle.trace.specs.declared.setup.Setup.{Setup}
-use Rattle.trace.specs.Choices.{Chosen, choice_cells, word_cells}
+use Rattle.trace.specs.Choices.{choice_cells, word_cells}
 use Rattle.trace.specs.Faults.{Stop, trace_stop}
 use Rattle.trace.specs.Lines.{bus_at}
 use Rattle.trace.specs.Setups.{word_in, Divided}
@@ -22,9 +22,9 @@ use Rattle.trace.specs.Texts.{open_stop, Opened}
 use Rattle.account.specs.declared.account.Ran.{Ran}
 use Rattle.account.specs.declared.account.Account.TheVariants as account
 use Rattle.account.specs.declared.stop.Stop.{Stop as Halting}
-use Rattle.account.specs.Accounts.{Performed, Halt, Outcome, refused, ran, performed, halted, closing_of, outcome_of}
+use Rattle.account.specs.Accounts.{Performed, Halt, refused, ran, performed, halted, closing_of, outcome_of}
 use Rattle.session.specs.Plays.{Plays}
-use Rattle.session.specs.Texts.{halt_at, word_cell, cells_with, cells_by, zeros, begun_by, Gives, stopped, played, divided, setup_cells, Played, sizes_by, Squares, Keeps, Accounted}
+use Rattle.session.specs.Texts.{halt_at, word_cell, cells_with, zeros, begun_by, Gives, stopped, played, divided, setup_cells, Played, sizes_by, Squares, Accounted}
 use Rattle.session.proofs.Playing.{gives-alike}
 use Rattle.session.proofs.Owing.{owes-each}
 

@@ -1,5 +1,5 @@
 -- Words that are all zero, cut into lines.
-use Rattle.std.proofs.Common.{◌≡◌, ℕ, zero, suc, ◌*◌, ◌/◌, ◌≤◌, min, List, [], ◌∷◌, length, replicate, sym, refl, ap, ◌∙◌, arith}
+use Rattle.std.proofs.Common.{◌≡◌, ℕ, zero, suc, ◌*◌, ◌/◌, ◌≤◌, min, List, [], ◌∷◌, length, replicate, refl, ap, ◌∙◌, arith}
 use native.Mathlib.Nat.{min-eq_left}
 use lib.ListN.{length-replicate}
 use Rattle.memory.specs.Words.{lines_of, cut, whole}

@@ -14,14 +14,13 @@ use Rattle.rules.specs.Systems.{System, due_in, outcome}
 use Rattle.run.specs.declared.reply.Reply.{Reply}
 use Rattle.run.specs.Calls.{reply_of}
 use Rattle.trace.specs.declared.access.Access.{Access}
-use Rattle.trace.specs.declared.fault.TraceFault.{TraceFault}
 use Rattle.trace.specs.declared.fault.TraceFault.TheVariants.{Refused}
 use Rattle.trace.specs.Faults.{Stop, trace_stop}
 use Rattle.account.specs.declared.step.Step.{Step}
 use Rattle.account.specs.Accounts.{Performed, performed}
 use Rattle.session.specs.declared.turn.Turn.{Turn}
 use Rattle.session.specs.declared.turn.Turn.TheVariants.{Performed as Turned, Ended, Stopped}
-use Rattle.session.specs.Plays.{call_of, performed_on, Plays, History}
+use Rattle.session.specs.Plays.{call_of, performed_on, Plays}
 
 -- a call was made, by the system and the record places before and after it
 pub record Makes (call : Call) (before after : System) (given left : List Record) (r : Result Reply Refusal) : Type 0 where

@@ -8,7 +8,7 @@
 -- OneOutcome every text gives just one outcome
 -- Played     the accesses of a text, performed and closed by the code
 -- Accounted  the outcome of a text, that it is the only one, and what it owes the ledger
-use Rattle.std.specs.Prelude.{◌≡◌, ℕ, ◌+◌, ◌*◌, cond, List, [], ◌∷◌, map, length, replicate, Some, None, Ok, Err, vec_items, Option, nat_lt, slice_index}
+use Rattle.std.specs.Prelude.{◌≡◌, ℕ, cond, List, [], ◌∷◌, map, length, replicate, Some, None, Ok, vec_items, Option, nat_lt, slice_index}
 use Rattle.std.specs.Option.{option_map}
 use Rattle.rules.specs.declared.call.Call.{Call}
 use Rattle.rules.specs.Transactions.{Protocol}

@@ -1,4 +1,6 @@
 // The run of a text: its bus line sets a run up, its access lines are performed one by one, and the run is closed.
+#![tactic(auto)]
+
 ghost use Rattle.session.specs.Texts.{OneOutcome};
 
 mod accesses;

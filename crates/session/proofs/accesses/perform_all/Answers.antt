@@ -10,6 +10,6 @@ loop-step-preserved g c = (
   c.in-Performed.ensures.text ∙ c.loop-step.invariant.1,
   went_on c.loop-step.reader.text.now c.args.reader.text.now c.loop-step.reader.at c.args.reader.at c.next_step.new.reader.at
       (system_of g.P.Protocol.cells plain_lines c.loop-step.run) (system_of g.P.Protocol.cells plain_lines c.next_step.new.run) (system_of g.P.Protocol.cells plain_lines c.args.run.now)
-      c.in-Performed.step (vec_items c.loop-step.steps) (vec_items c.push.new.self) c.loop-step.invariant.1 c.in-Performed.ensures.next c.in_ok-push.ensures.items
+      c.in-Performed.step (vec_items c.loop-step.steps) (vec_items c.push.new.self) c.loop-step.invariant.1 c.in-Performed.ensures.next c.in_ok-push-in-Performed.ensures.items
       c.loop-step.invariant.2,
 )

@@ -1,4 +1,4 @@
-use Rattle.std.proofs.Common.{◌≡◌, ℕ, ◌-◌, List, ◌++◌, map, length, vec_items, Option}
+use Rattle.std.proofs.Common.{◌≡◌, ◌-◌, List, ◌++◌, map, length, vec_items, Option}
 use Rattle.memory.specs.Words.{plain_lines}
 use Rattle.rules.specs.Systems.{System}
 use Rattle.run.specs.Views.{system_of}

@@ -5,5 +5,5 @@ use Rattle.session.proofs.memory_words.zero_memory.Goals as goal
 
 pub returns : goal.returns
 returns c =
-    let e : vec_items c.in_ok-words.words ≡ replicate (c.args.lines * 4) 0 = c.in_ok-words.ensures.items-if-clones-equal (search rules) in
+    let e : vec_items c.in_ok-words.words ≡ replicate (c.args.lines * 4) 0 = c.in_ok-words.ensures.items_if_clones_equal (search rules) in
     c.new.ensures.lines ∙ (ap lines_of e ∙ zero-lines c.args.lines c.requires)

@@ -1,4 +1,4 @@
-use Rattle.std.proofs.Common.{◌≡◌, ℕ, ◌<◌, ◌≤◌, ◌≢◌, length, get_or, take, sym, ap, ◌∙◌, arith, length-set, get_or-set_other, get_or-set_same, below_more}
+use Rattle.std.proofs.Common.{◌≡◌, ℕ, ◌<◌, ◌≢◌, length, take, sym, ap, ◌∙◌, arith, length-set, get_or-set_other, get_or-set_same, below_more}
 use lib.ListN.{length-map}
 use Rattle.caches.specs.Views.{caches_of}
 use Rattle.caches.proofs.Places.{caches-long}
