@@ -6,10 +6,10 @@ ghost use Rattle.report.specs.Printed.{close_line, access_counts, fill_counts, t
 use crate::memory_lines::write_memory;
 use account::Ran;
 use rules::Tally;
-use std::fmt;
+use std::alloc::AllocError;
 
 /// The lines written, the tally, and the memory.
-pub(crate) fn write_closing(out: &mut String, ran: &Ran) -> fmt::Result
+pub(crate) fn write_closing(out: &mut String, ran: &Ran) -> Result<(), AllocError>
     ensures { OnOk result (string_bytes out.new ≡ string_bytes out.old ++ closing_lines (closing_of ran.now)) }
 {
     write_close(out, ran.written)?;
@@ -18,14 +18,14 @@ pub(crate) fn write_closing(out: &mut String, ran: &Ran) -> fmt::Result
 }
 
 // `close = LINES`
-fn write_close(out: &mut String, lines: u32) -> fmt::Result
+fn write_close(out: &mut String, lines: u32) -> Result<(), AllocError>
     ensures { OnOk result (string_bytes out.new ≡ string_bytes out.old ++ close_line lines) }
 {
     write!(out, "close = {lines}\n")
 }
 
 // Each number of the tally behind its name.
-fn write_tally(out: &mut String, tally: Tally) -> fmt::Result
+fn write_tally(out: &mut String, tally: Tally) -> Result<(), AllocError>
     ensures { OnOk result (string_bytes out.new ≡ string_bytes out.old ++ tally_line tally) }
 {
     write_accesses(out, tally)?;
@@ -34,7 +34,7 @@ fn write_tally(out: &mut String, tally: Tally) -> fmt::Result
 }
 
 // How often each transaction was made.
-fn write_transactions(out: &mut String, tally: Tally) -> fmt::Result
+fn write_transactions(out: &mut String, tally: Tally) -> Result<(), AllocError>
     ensures { OnOk result (string_bytes out.new ≡ string_bytes out.old ++ transaction_counts tally) }
 {
     write_fills(out, tally)?;
@@ -42,7 +42,7 @@ fn write_transactions(out: &mut String, tally: Tally) -> fmt::Result
 }
 
 // Reads, writes and hits.
-fn write_accesses(out: &mut String, tally: Tally) -> fmt::Result
+fn write_accesses(out: &mut String, tally: Tally) -> Result<(), AllocError>
     ensures { OnOk result (string_bytes out.new ≡ string_bytes out.old ++ access_counts tally) }
 {
     let Tally {
@@ -55,7 +55,7 @@ fn write_accesses(out: &mut String, tally: Tally) -> fmt::Result
 }
 
 // The transactions RS, RX, IN and UP.
-fn write_fills(out: &mut String, tally: Tally) -> fmt::Result
+fn write_fills(out: &mut String, tally: Tally) -> Result<(), AllocError>
     ensures { OnOk result (string_bytes out.new ≡ string_bytes out.old ++ fill_counts tally) }
 {
     let Tally {
@@ -69,7 +69,7 @@ fn write_fills(out: &mut String, tally: Tally) -> fmt::Result
 }
 
 // The transactions TU, TI and WB.
-fn write_throughs(out: &mut String, tally: Tally) -> fmt::Result
+fn write_throughs(out: &mut String, tally: Tally) -> Result<(), AllocError>
     ensures { OnOk result (string_bytes out.new ≡ string_bytes out.old ++ through_counts tally) }
 {
     let Tally { tu, ti, wb, .. } = tally;
@@ -77,7 +77,7 @@ fn write_throughs(out: &mut String, tally: Tally) -> fmt::Result
 }
 
 // What became of lines and copies, and the end of the line.
-fn write_copies(out: &mut String, tally: Tally) -> fmt::Result
+fn write_copies(out: &mut String, tally: Tally) -> Result<(), AllocError>
     ensures { OnOk result (string_bytes out.new ≡ string_bytes out.old ++ copy_counts tally) }
 {
     let Tally {

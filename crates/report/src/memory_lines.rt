@@ -4,10 +4,10 @@ ghost use Rattle.memory.specs.Words.{plain_lines};
 ghost use Rattle.report.specs.Printed.{all_zero, words_text, memory_line, memory_line_if, memory_lines};
 
 use memory::{Memory, Plain};
-use std::fmt;
+use std::alloc::AllocError;
 
 /// `m LINE WORDS` for each line that is not all zero, upward.
-pub(crate) fn write_memory(out: &mut String, memory: &Plain) -> fmt::Result
+pub(crate) fn write_memory(out: &mut String, memory: &Plain) -> Result<(), AllocError>
     ensures { OnOk result (string_bytes out.new ≡ string_bytes out.old ++ memory_lines 0 (plain_lines memory.now)) }
 {
     for line in 0..memory.count() {
@@ -20,7 +20,7 @@ pub(crate) fn write_memory(out: &mut String, memory: &Plain) -> fmt::Result
 }
 
 // A line of memory, unless it is all zero.
-fn write_line_if(out: &mut String, line: usize, words: &[u32]) -> fmt::Result
+fn write_line_if(out: &mut String, line: usize, words: &[u32]) -> Result<(), AllocError>
     ensures { OnOk result (string_bytes out.new ≡ string_bytes out.old ++ memory_line_if line words.now) }
 {
     if all_zero(words) {
@@ -42,7 +42,7 @@ fn all_zero(words: &[u32]) -> bool
 }
 
 // A line of memory and its words.
-fn write_line(out: &mut String, line: usize, words: &[u32]) -> fmt::Result
+fn write_line(out: &mut String, line: usize, words: &[u32]) -> Result<(), AllocError>
     ensures { OnOk result (string_bytes out.new ≡ string_bytes out.old ++ memory_line line words.now) }
 {
     write!(out, "m {line}")?;
@@ -51,7 +51,7 @@ fn write_line(out: &mut String, line: usize, words: &[u32]) -> fmt::Result
 }
 
 // Each word behind a space.
-fn write_words(out: &mut String, words: &[u32]) -> fmt::Result
+fn write_words(out: &mut String, words: &[u32]) -> Result<(), AllocError>
     ensures { OnOk result (string_bytes out.new ≡ string_bytes out.old ++ words_text words.now) }
 {
     for word in words {

@@ -7,11 +7,11 @@ ghost use Rattle.report.specs.Printed.{access_text, letters, record_text, record
 use account::Step;
 use protocol::State;
 use rules::Record;
-use std::fmt;
+use std::alloc::AllocError;
 use trace::Access;
 
 /// The access, its answer, the states of its line, and the transactions that it made.
-pub(crate) fn write_step(out: &mut String, step: &Step) -> fmt::Result
+pub(crate) fn write_step(out: &mut String, step: &Step) -> Result<(), AllocError>
     ensures { OnOk result (string_bytes out.new ≡ string_bytes out.old ++ step_line (performed step.now)) }
 {
     let answer = step.answer;
@@ -22,7 +22,7 @@ pub(crate) fn write_step(out: &mut String, step: &Step) -> fmt::Result
 }
 
 // The access as its line has it.
-fn write_access(out: &mut String, access: Access) -> fmt::Result
+fn write_access(out: &mut String, access: Access) -> Result<(), AllocError>
     ensures { OnOk result (string_bytes out.new ≡ string_bytes out.old ++ access_text access) }
 {
     match access {
@@ -38,7 +38,7 @@ fn write_access(out: &mut String, access: Access) -> fmt::Result
 }
 
 // What follows the answer of a read, a write or a flush.
-fn write_detail(out: &mut String, step: &Step) -> fmt::Result
+fn write_detail(out: &mut String, step: &Step) -> Result<(), AllocError>
     ensures { OnOk result (string_bytes out.new ≡ string_bytes out.old ++ detail_text step.now.access (performed step.now).states (performed step.now).records) }
 {
     match step.access {
@@ -48,7 +48,7 @@ fn write_detail(out: &mut String, step: &Step) -> fmt::Result
 }
 
 // The states, then the transactions.
-fn write_seats(out: &mut String, step: &Step) -> fmt::Result
+fn write_seats(out: &mut String, step: &Step) -> Result<(), AllocError>
     ensures { OnOk result (string_bytes out.new ≡ string_bytes out.old ++ (codes " " ++ (letters (performed step.now).states ++ record_texts (performed step.now).records))) }
 {
     write!(out, " ")?;
@@ -57,7 +57,7 @@ fn write_seats(out: &mut String, step: &Step) -> fmt::Result
 }
 
 // One letter for each seat.
-fn write_states(out: &mut String, states: &[State]) -> fmt::Result
+fn write_states(out: &mut String, states: &[State]) -> Result<(), AllocError>
     ensures { OnOk result (string_bytes out.new ≡ string_bytes out.old ++ letters states.now) }
 {
     for state in states {
@@ -67,7 +67,7 @@ fn write_states(out: &mut String, states: &[State]) -> fmt::Result
 }
 
 // The letter of a state.
-fn write_state(out: &mut String, state: State) -> fmt::Result
+fn write_state(out: &mut String, state: State) -> Result<(), AllocError>
     ensures { OnOk result (string_bytes out.new ≡ string_bytes out.old ++ (letter state ∷ [])) }
 {
     let letter = letter_text(state);
@@ -88,7 +88,7 @@ fn letter_text(state: State) -> &'static str
 }
 
 // Each transaction with its seat, oldest first.
-fn write_records(out: &mut String, records: &[Record]) -> fmt::Result
+fn write_records(out: &mut String, records: &[Record]) -> Result<(), AllocError>
     ensures { OnOk result (string_bytes out.new ≡ string_bytes out.old ++ record_texts records.now) }
 {
     for event in records {
@@ -98,7 +98,7 @@ fn write_records(out: &mut String, records: &[Record]) -> fmt::Result
 }
 
 // A transaction with its seat.
-fn write_record(out: &mut String, event: &Record) -> fmt::Result
+fn write_record(out: &mut String, event: &Record) -> Result<(), AllocError>
     ensures { OnOk result (string_bytes out.new ≡ string_bytes out.old ++ record_text event.now) }
 {
     let mnemonic = event.transaction.mnemonic();

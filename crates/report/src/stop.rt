@@ -4,11 +4,11 @@ ghost use Rattle.account.specs.Accounts.{halted};
 ghost use Rattle.report.specs.Printed.{layer_name, stop_line};
 
 use account::Stop;
-use std::fmt;
+use std::alloc::AllocError;
 use trace::Layer;
 
 /// `stop N LAYER line L byte K`
-pub(crate) fn write_stop(out: &mut String, stop: &Stop) -> fmt::Result
+pub(crate) fn write_stop(out: &mut String, stop: &Stop) -> Result<(), AllocError>
     ensures { OnOk result (string_bytes out.new ≡ string_bytes out.old ++ stop_line (halted stop.now)) }
 {
     let refusal = stop.fault.refusal();

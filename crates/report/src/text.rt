@@ -9,21 +9,18 @@ use crate::step::write_step;
 use crate::stop::write_stop;
 use account::{Account, Ran, Step, Stop};
 use std::alloc::{AllocError, Global};
-use std::fmt;
 
 /// The report of an account. Only want of memory keeps it from being made.
 pub fn report(heap: Global, account: &Account) -> Result<String, AllocError>
     ensures { IfOk result (λ text. string_bytes text ≡ printed (outcome_of account.now)) }
 {
     let mut out = String::new(heap);
-    match write_account(&mut out, account) {
-        Ok(()) => Ok(out),
-        Err(_) => Err(AllocError),
-    }
+    write_account(&mut out, account)?;
+    Ok(out)
 }
 
 // The report behind what stands in `out`.
-fn write_account(out: &mut String, account: &Account) -> fmt::Result
+fn write_account(out: &mut String, account: &Account) -> Result<(), AllocError>
     ensures { OnOk result (string_bytes out.new ≡ string_bytes out.old ++ printed (outcome_of account.now)) }
 {
     match account {
@@ -33,7 +30,7 @@ fn write_account(out: &mut String, account: &Account) -> fmt::Result
 }
 
 // The accesses, the stop if there is one, and the closing.
-fn write_ran(out: &mut String, ran: &Ran) -> fmt::Result
+fn write_ran(out: &mut String, ran: &Ran) -> Result<(), AllocError>
     ensures { OnOk result (string_bytes out.new ≡ string_bytes out.old ++ printed (outcome_of (Account.Ran ran.now))) }
 {
     write_steps(out, ran.steps.as_slice())?;
@@ -42,7 +39,7 @@ fn write_ran(out: &mut String, ran: &Ran) -> fmt::Result
 }
 
 // Each access in turn.
-fn write_steps(out: &mut String, steps: &[Step]) -> fmt::Result
+fn write_steps(out: &mut String, steps: &[Step]) -> Result<(), AllocError>
     ensures { OnOk result (string_bytes out.new ≡ string_bytes out.old ++ step_lines (map performed steps.now)) }
 {
     for step in steps {
@@ -52,7 +49,7 @@ fn write_steps(out: &mut String, steps: &[Step]) -> fmt::Result
 }
 
 // The stop, if there is one.
-fn write_stop_if(out: &mut String, stop: Option<Stop>) -> fmt::Result
+fn write_stop_if(out: &mut String, stop: Option<Stop>) -> Result<(), AllocError>
     ensures { OnOk result (string_bytes out.new ≡ string_bytes out.old ++ stop_line_if (option_map halted stop)) }
 {
     match stop {
