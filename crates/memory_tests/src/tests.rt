@@ -13,7 +13,10 @@ fn seven_words_make_one_line(rt: HostRuntime) -> Result<(), Fail> {
     assert_eq!(rt; memory.read_line(1), Err(Refusal::BeyondMemory));
     assert_eq!(rt; memory.write_word(0, 4, 9), Err(Refusal::BeyondMemory));
     memory.write_word(0, 3, 9)?;
-    assert_eq!(rt; memory.into_words().as_slice(), [1, 2, 3, 9, 5, 6, 7].as_slice());
+    assert_eq!(rt;
+        memory.into_words().as_slice(),
+        [1, 2, 3, 9, 5, 6, 7].as_slice()
+    );
     Ok(())
 }
 

@@ -7,7 +7,7 @@
 -- tally_line    `tally` and each number behind its name
 -- memory_lines  `m LINE W0 W1 W2 W3` for each line that is not all zero, upward
 -- printed      the whole report
-use Rattle.std.specs.Prelude.{ℕ, suc, Bool, true, false, cond, ◌&&◌, List, [], ◌∷◌, ◌++◌, Some, None, codes, decimal, Option, ◌==◌}
+use Rattle.std.specs.Prelude.{ℕ, suc, Bool, true, cond, ◌&&◌, List, [], ◌∷◌, ◌++◌, Some, None, codes, decimal, Option, ◌==◌}
 use Rattle.std.specs.List.{flat_map}
 use Rattle.protocol.specs.declared.state.State.{State}
 use Rattle.protocol.specs.States.{letter}

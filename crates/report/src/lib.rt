@@ -1,4 +1,6 @@
 // The report of a text: what its run did, as the bytes that are printed.
+#![tactic(auto)]
+
 mod closing;
 mod memory_lines;
 mod step;

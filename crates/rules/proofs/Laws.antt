@@ -3,7 +3,7 @@
 -- Fair     a record's write back is by an owner of the beginning, and its supplier is one, or memory where there was none
 -- Honest   all that was told so far is fair, and every owner owned at the beginning
 use Rattle.std.proofs.Common.{◌≡◌, ℕ, ◌+◌, ◌/◌, ◌%◌, ◌<◌, ◌≤◌, Bool, true, false, cond, ◌≢◌, List, [], ◌∷◌, ◌++◌, map, length, get_or, set, Some, None, Option, sym, refl, ap, ◌∙◌, subst, ⊎_elim, zero-add, arith}
-use Rattle.std.specs.List.{AllByRecursion as All}
+use Rattle.std.specs.List.{AllByRecursion}
 use Rattle.std.proofs.ByRecursion.{All-push, All-weaker}
 use Rattle.std.proofs.lemmas.List.{get_or-set_same, get_or-set_other, map-set}
 use Rattle.std.proofs.lemmas.Bool.{cases_eq, both_ways, false≢true}
@@ -130,13 +130,13 @@ Fair s e = ByOwner s e × BySupplier s e
 
 -- what was told, and the owners, against the beginning
 record Honest (s : System) (m : Machine) : Type 0 where
-  told : All (Fair s) m.records
+  told : AllByRecursion (Fair s) m.records
   owners : (n i : ℕ) → owned (state_at (copies_of n m.caches) i) ≡ true → owned (state_on s n i) ≡ true
 
 -- a transaction that is no write back
 other-told :
     (s : System) (t : Transaction) (r n : ℕ) (f : Column → Column) (m : Machine) → t ≢ WriteBack → MovedBy s t n (supplier_of t (copies_of n m.caches))
-    → All (Fair s) m.records → All (Fair s) (transact t r n f m).records
+    → AllByRecursion (Fair s) m.records → AllByRecursion (Fair s) (transact t r n f m).records
 unfolding transact
 other-told s t r n f m ne by h = All-push (Fair s) m.records (record_of t r n (column m n) (f (column m n))) h ((λ e. absurd (ne e)), by)
 
@@ -183,13 +183,13 @@ module _ (z : Sizes) (truth : List (List ℕ)) (r : ℕ) (on : r < z.seats) (s :
       (cases_eq i r)
 
   -- a copy let go
-  back-if-told : (n : ℕ) (m : Machine) (b : Bool) → owned (state_in r n m) ≡ b → Honest s m → All (Fair s) (written_back_if b r n m).records
+  back-if-told : (n : ℕ) (m : Machine) (b : Bool) → owned (state_in r n m) ≡ b → Honest s m → AllByRecursion (Fair s) (written_back_if b r n m).records
   back-if-told n m true e h = (back-honest s r n m e h).told
   back-if-told n m false e h = h.told
 
-  let_go-told : (n : ℕ) (m : Machine) → Honest s m → All (Fair s) (let_go r n m).records
+  let_go-told : (n : ℕ) (m : Machine) → Honest s m → AllByRecursion (Fair s) (let_go r n m).records
   unfolding let_go
-  let_go-told n m h = subst (All (Fair s)) (sym (change-told n (dropped r) (written_back_if (owned (state_in r n m)) r n m))) (back-if-told n m (owned (state_in r n m)) refl h)
+  let_go-told n m h = subst (AllByRecursion (Fair s)) (sym (change-told n (dropped r) (written_back_if (owned (state_in r n m)) r n m))) (back-if-told n m (owned (state_in r n m)) refl h)
 
   let_go-honest : (n : ℕ) → n < z.lines → (m : Machine) → Good z truth m → Honest s m → Honest s (let_go r n m)
   let_go-honest n there m ok h = record {
@@ -207,11 +207,11 @@ module _ (z : Sizes) (truth : List (List ℕ)) (r : ℕ) (on : r < z.seats) (s :
   unfolding emptied
   emptied-honest n m ok h = emptied-if-honest n m ok (room (get_or m.caches r []) n) refl h
 
-  flushed-if-told : (n : ℕ) (m : Machine) (b : Bool) → Honest s m → All (Fair s) (flushed_if b r n m).records
+  flushed-if-told : (n : ℕ) (m : Machine) (b : Bool) → Honest s m → AllByRecursion (Fair s) (flushed_if b r n m).records
   flushed-if-told n m true h = let_go-told n m h
   flushed-if-told n m false h = h.told
 
-  flushed-told : (n : ℕ) (m : Machine) → Honest s m → All (Fair s) (flushed r n m).records
+  flushed-told : (n : ℕ) (m : Machine) → Honest s m → AllByRecursion (Fair s) (flushed r n m).records
   unfolding flushed
   flushed-told n m h = flushed-if-told n m (holds r n m) h
 
@@ -261,11 +261,11 @@ module _ (z : Sizes) (cell : Protocol) (law : Lawful cell) (n : ℕ) (there : n 
         line : column (filled cell r n m) n ≡ record { copies = map tidy (read_shared cell r (column new n)).copies; home = (read_shared cell r (column new n)).home }
         line = transact-line z truth new e.good n there r on (read_shared cell r) true (get_or truth n []) (shared-moved z cell law n there r on truth m ok miss new e) (λ _. e.free) (e.good.sound.widths n there) ReadShared
 
-  fetched-if-told : (m : Machine) → Good z truth m → copies_of n m.caches ≡ copies_of n s.caches → Honest s m → (b : Bool) → holds r n m ≡ b → All (Fair s) (fetched_if b cell r n m).records
+  fetched-if-told : (m : Machine) → Good z truth m → copies_of n m.caches ≡ copies_of n s.caches → Honest s m → (b : Bool) → holds r n m ≡ b → AllByRecursion (Fair s) (fetched_if b cell r n m).records
   fetched-if-told m ok begun h true e = h.told
   fetched-if-told m ok begun h false e = (filled-honest m ok e begun h).told
 
-  fetched-told : (m : Machine) → Good z truth m → copies_of n m.caches ≡ copies_of n s.caches → Honest s m → All (Fair s) (fetched cell r n m).records
+  fetched-told : (m : Machine) → Good z truth m → copies_of n m.caches ≡ copies_of n s.caches → Honest s m → AllByRecursion (Fair s) (fetched cell r n m).records
   unfolding fetched
   fetched-told m ok begun h = fetched-if-told m ok begun h (holds r n m) refl
 
@@ -279,19 +279,19 @@ module _ (z : Sizes) (cell : Protocol) (law : Lawful cell) (n : ℕ) (there : n 
         (λ p. ap (λ (x : Copy). owned x.state) (sym (get_or-set_other (copies_of n m.caches) r i none none p)) ∙ e)
         (cases_eq i r)
 
-    saved-told : (m : Machine) → Good z truth m → Honest s m → (w : Option ℕ) → Found 0 (set (copies_of n m.caches) r none) w → All (Fair s) (owner_writes_back w n m).records
+    saved-told : (m : Machine) → Good z truth m → Honest s m → (w : Option ℕ) → Found 0 (set (copies_of n m.caches) r none) w → AllByRecursion (Fair s) (owner_writes_back w n m).records
     saved-told m ok h None f = h.told
     saved-told m ok h (Some k) (i, (p, l, e)) =
         (back-honest s k n m (subst (λ (j : ℕ). owned (state_in j n m) ≡ true) (sym (p ∙ zero-add i)) (other_owns m ok i e)) h).told
 
-    through-told : (m : Machine) → Good z truth m → Honest s m → All (Fair s) (through cell r n o v m).records
+    through-told : (m : Machine) → Good z truth m → Honest s m → AllByRecursion (Fair s) (through cell r n o v m).records
     unfolding through saved_from
     through-told m ok h =
         let w = owner_of (set (copies_of n m.caches) r none) in
         other-told s ThroughInvalidate r n (through_invalidate cell r o v) (owner_writes_back w n m) (λ e. let q : ◌≡◌ {A = ℕ} 0 1 = cc in absurd (omega arith))
         refl (saved-told m ok h w (owner_owns (set (copies_of n m.caches) r none) w refl))
 
-    sent-told : (m : Machine) → Good z truth m → Honest s m → (t : Option Transaction) → All (Fair s) (sent_by cell r n o v t m).records
+    sent-told : (m : Machine) → Good z truth m → Honest s m → (t : Option Transaction) → AllByRecursion (Fair s) (sent_by cell r n o v t m).records
     sent-told m ok h None = h.told
     sent-told m ok h (Some ReadShared) = h.told
     sent-told m ok h (Some ReadInvalidate) = h.told
@@ -301,18 +301,18 @@ module _ (z : Sizes) (cell : Protocol) (law : Lawful cell) (n : ℕ) (there : n 
     sent-told m ok h (Some ThroughInvalidate) = through-told m ok h
     sent-told m ok h (Some WriteBack) = h.told
 
-    at_told : (m : Machine) → Good z truth m → Honest s m → (t : State) → All (Fair s) (written_at cell r n o v t m).records
+    at_told : (m : Machine) → Good z truth m → Honest s m → (t : State) → AllByRecursion (Fair s) (written_at cell r n o v t m).records
     at_told m ok h Invalid = h.told
     at_told m ok h Shared = sent-told m ok h (digit_transaction (cell r 1))
-    at_told m ok h Exclusive = subst (All (Fair s)) (sym (change-told n (silent r o v) m)) h.told
+    at_told m ok h Exclusive = subst (AllByRecursion (Fair s)) (sym (change-told n (silent r o v) m)) h.told
     at_told m ok h Owned = sent-told m ok h (digit_transaction (cell r 2))
-    at_told m ok h Modified = subst (All (Fair s)) (sym (change-told n (silent r o v) m)) h.told
+    at_told m ok h Modified = subst (AllByRecursion (Fair s)) (sym (change-told n (silent r o v) m)) h.told
 
-    held-told : (m : Machine) → Good z truth m → Honest s m → All (Fair s) (written_held cell r n o v m).records
+    held-told : (m : Machine) → Good z truth m → Honest s m → AllByRecursion (Fair s) (written_held cell r n o v m).records
     unfolding written_held
     held-told m ok h = at_told m ok h (state_in r n m)
 
-    missed-told : (m : Machine) → Good z truth m → holds r n m ≡ false → copies_of n m.caches ≡ copies_of n s.caches → Honest s m → (t : Option Transaction) → All (Fair s) (missed_by cell r n o v t m).records
+    missed-told : (m : Machine) → Good z truth m → holds r n m ≡ false → copies_of n m.caches ≡ copies_of n s.caches → Honest s m → (t : Option Transaction) → AllByRecursion (Fair s) (missed_by cell r n o v t m).records
     missed-told m ok miss begun h None = h.told
     missed-told m ok miss begun h (Some ReadShared) = held-told (filled cell r n m) (filled-good z cell law n there r on truth m ok miss).0 (filled-honest m ok miss begun h)
     missed-told m ok miss begun h (Some ReadInvalidate) =
@@ -324,11 +324,11 @@ module _ (z : Sizes) (cell : Protocol) (law : Lawful cell) (n : ℕ) (there : n 
     missed-told m ok miss begun h (Some ThroughInvalidate) = through-told m ok h
     missed-told m ok miss begun h (Some WriteBack) = h.told
 
-    written-if-told : (m : Machine) → Good z truth m → copies_of n m.caches ≡ copies_of n s.caches → Honest s m → (b : Bool) → holds r n m ≡ b → All (Fair s) (written_if cell r n o v b m).records
+    written-if-told : (m : Machine) → Good z truth m → copies_of n m.caches ≡ copies_of n s.caches → Honest s m → (b : Bool) → holds r n m ≡ b → AllByRecursion (Fair s) (written_if cell r n o v b m).records
     written-if-told m ok begun h true e = held-told m ok h
     written-if-told m ok begun h false e = missed-told m ok e begun h (digit_transaction (cell r 0))
 
-    written-told : (m : Machine) → Good z truth m → copies_of n m.caches ≡ copies_of n s.caches → Honest s m → All (Fair s) (written cell r n o v m).records
+    written-told : (m : Machine) → Good z truth m → copies_of n m.caches ≡ copies_of n s.caches → Honest s m → AllByRecursion (Fair s) (written cell r n o v m).records
     unfolding written
     written-told m ok begun h = written-if-told m ok begun h (holds r n m) refl
 
@@ -352,7 +352,7 @@ module _ (z : Sizes) (s : System) (l : Ledger) (k : InStep z s l) where
   begin_honest : Honest s (at_work s)
   begin_honest = record { told = tt; owners = λ n i e. e }
 
-  told-if : (call : Call) (o : Option Told) → due_in z.width s call ≡ o → All (Fair s) (outcome_if z.width o call s).records
+  told-if : (call : Call) (o : Option Told) → due_in z.width s call ≡ o → AllByRecursion (Fair s) (outcome_if z.width o call s).records
   told-if call (Some x) e = tt
   told-if (Read seat address places) None e =
       let on = access-on z s l k 1 seat address places e in
@@ -365,14 +365,14 @@ module _ (z : Sizes) (s : System) (l : Ledger) (k : InStep z s l) where
       flushed-told z k.truth seat on.0 s (address / z.width) (at_work s) begin_honest
   told-if Settle None e = tt
 
-  told-fair : (call : Call) → All (Fair s) (outcome z.width call s).records
+  told-fair : (call : Call) → AllByRecursion (Fair s) (outcome z.width call s).records
   unfolding outcome
   told-fair call = told-if call (due_in z.width s call) refl
 
-  owners-write : (call : Call) → All (ByOwner s) (outcome z.width call s).records
+  owners-write : (call : Call) → AllByRecursion (ByOwner s) (outcome z.width call s).records
   owners-write call = All-weaker (Fair s) (ByOwner s) (λ e h. h.0) (outcome z.width call s).records (told-fair call)
 
-  owners-supply : (call : Call) → All (BySupplier s) (outcome z.width call s).records
+  owners-supply : (call : Call) → AllByRecursion (BySupplier s) (outcome z.width call s).records
   owners-supply call = All-weaker (Fair s) (BySupplier s) (λ e h. h.1) (outcome z.width call s).records (told-fair call)
 
   module _ (seat address places : ℕ) (e : due_in z.width s (Read seat address places) ≡ None) where

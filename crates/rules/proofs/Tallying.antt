@@ -1,6 +1,6 @@
 -- What every step of a call keeps, and so what the tally counts of a call and what its records tell.
 use Rattle.std.proofs.Common.{◌≡◌, ℕ, zero, suc, ◌+◌, ◌/◌, ◌%◌, Bool, true, false, List, [], ◌∷◌, ◌++◌, length, get_or, set, Some, None, Option, sym, refl, ap, ◌∙◌, add-zero}
-use Rattle.std.specs.List.{AllByRecursion as All}
+use Rattle.std.specs.List.{AllByRecursion}
 use Rattle.std.proofs.ByRecursion.{All-push}
 use Rattle.std.proofs.lemmas.Bool.{false≢true}
 use Rattle.refusal.specs.Refusals.{Told}
@@ -146,7 +146,7 @@ module _
 -- what is told of each record, all records tell
 module _ (P : Record → Type 0) (each : (t : Transaction) (r n : ℕ) (c d : Column) → P (record_of t r n c d)) where
   abbrev Told-so : Machine → Type 0
-  Told-so m = All P m.records
+  Told-so m = AllByRecursion P m.records
 
   so-transact : (t : Transaction) (r n : ℕ) (f : Column → Column) (m : Machine) → Told-so m → Told-so (transact t r n f m)
   unfolding transact
@@ -156,7 +156,7 @@ module _ (P : Record → Type 0) (each : (t : Transaction) (r n : ℕ) (c d : Co
   unfolding change
   so-change n f m h = h
 
-  told-if : (width : ℕ) (s : System) (call : Call) (o : Option Told) → All P (outcome_if width o call s).records
+  told-if : (width : ℕ) (s : System) (call : Call) (o : Option Told) → AllByRecursion P (outcome_if width o call s).records
   told-if width s call (Some x) = tt
   told-if width s (Read seat address places) None =
       fetched-keeps Told-so so-transact so-change (λ m h. h) (λ m h. h) s.cell seat (address / width) (at_work s) tt
@@ -166,7 +166,7 @@ module _ (P : Record → Type 0) (each : (t : Transaction) (r n : ℕ) (c d : Co
       flushed-keeps Told-so so-transact so-change (λ m h. h) (λ m h. h) seat (address / width) (at_work s) tt
   told-if width s Settle None = tt
 
-  pub all_told : (width : ℕ) (s : System) (call : Call) → All P (outcome width call s).records
+  pub all_told : (width : ℕ) (s : System) (call : Call) → AllByRecursion P (outcome width call s).records
   unfolding outcome
   all_told width s call = told-if width s call (due_in width s call)
 
@@ -319,7 +319,7 @@ reading ThroughUpdate xs ys e = absurd (false≢true e)
 reading ThroughInvalidate xs ys e = absurd (false≢true e)
 reading WriteBack xs ys e = absurd (false≢true e)
 
-pub reflections-told : (width : ℕ) (s : System) (call : Call) → All ByReading (outcome width call s).records
+pub reflections-told : (width : ℕ) (s : System) (call : Call) → AllByRecursion ByReading (outcome width call s).records
 reflections-told = all_told ByReading (λ t r n c d. reading t c.copies d.copies)
 
 -- what the access itself counts

@@ -6,7 +6,7 @@
 -- forward     a count brought forward by each of the records in turn
 -- BusLaws     the laws
 use Rattle.std.specs.Prelude.{◌≡◌, ℕ, ◌+◌, ◌-◌, ◌/◌, ◌≤◌, Bool, true, false, ◌≢◌, List, [], ◌∷◌, ◌++◌, length, Some, None, Option, slice_index, slice_index_or, slice_set}
-use Rattle.std.specs.List.{AllByRecursion as All}
+use Rattle.std.specs.List.{AllByRecursion}
 use Rattle.refusal.specs.Refusals.{Told}
 use Rattle.protocol.specs.declared.transaction.Transaction.{Transaction}
 use Rattle.protocol.specs.declared.transaction.Transaction.TheVariants.{ReadShared, ReadInvalidate, Invalidate, Update, ThroughUpdate, ThroughInvalidate, WriteBack}
@@ -120,9 +120,9 @@ pub record BusLaws : Type 0 where
       → (n : ℕ) → displaced s seat (address / z.width) ≡ Some n
       → copies_of n (outcome z.width (Read seat address places) s).system.caches ≡ slice_set (copies_of n s.caches) seat none
   -- only an owner's line is written back
-  pub owners : (z : Sizes) (s : System) (l : Ledger) → Since z s l → (call : Call) → All (ByOwner s) (outcome z.width call s).records
+  pub owners : (z : Sizes) (s : System) (l : Ledger) → Since z s l → (call : Call) → AllByRecursion (ByOwner s) (outcome z.width call s).records
   -- an owner supplies, or else memory
-  pub suppliers : (z : Sizes) (s : System) (l : Ledger) → Since z s l → (call : Call) → All (BySupplier s) (outcome z.width call s).records
+  pub suppliers : (z : Sizes) (s : System) (l : Ledger) → Since z s l → (call : Call) → AllByRecursion (BySupplier s) (outcome z.width call s).records
   -- a flush writes a line exactly when its seat owns it
   pub flushes : (z : Sizes) (s : System) (l : Ledger) → Since z s l → (seat address places : ℕ) → due_in z.width s (Flush seat address places) ≡ None
       → (outcome z.width (Flush seat address places) s).answer ≡ one (owned (state_on s (address / z.width) seat))
@@ -130,7 +130,7 @@ pub record BusLaws : Type 0 where
   pub settles : (z : Sizes) (s : System) (l : Ledger) → Since z s l → due_in z.width s Settle ≡ None
       → (n seat : ℕ) → valid (state_on (outcome z.width Settle s).system n seat) ≡ false
   -- only a read shared is reflected
-  pub reflections : (width : ℕ) (s : System) (call : Call) → All ByReading (outcome width call s).records
+  pub reflections : (width : ℕ) (s : System) (call : Call) → AllByRecursion ByReading (outcome width call s).records
   -- the tally counts each transaction that an answered call makes, each line reflected, and each line brought to a seat
   pub counts : (width : ℕ) (s : System) (call : Call) → due_in width s call ≡ None
       → transactions_of (outcome width call s).system.tally ≡ forward one_more (reached width call s).records (transactions_of s.tally)

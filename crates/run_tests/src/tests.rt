@@ -77,7 +77,7 @@ fn the_first_session_replayed(rt: HostRuntime) -> Result<(), Fail> {
     );
     assert_eq!(rt;
         words.as_slice(),
-        &[0, 7, 0, 0, 0, 0, 0, 0, 5, 0, 0, 0, 0, 0, 0, 0]
+        [0, 7, 0, 0, 0, 0, 0, 0, 5, 0, 0, 0, 0, 0, 0, 0].as_slice()
     );
     Ok(())
 }

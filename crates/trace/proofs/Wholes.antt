@@ -1,6 +1,6 @@
 -- The access lines of a text, all of them.
 use Rattle.std.proofs.Common.{◌≡◌, ℕ, ◌+◌, ◌<◌, ◌≤◌, List, [], ◌∷◌, ◌++◌, length, drop, Some, None, Ok, Err, Option, Result, sym, refl, ap, ◌∙◌, subst, arith, length-append, length-drop}
-use Rattle.std.specs.List.{flat_map, AllByRecursion as All}
+use Rattle.std.specs.List.{flat_map, AllByRecursion}
 use Rattle.std.proofs.lemmas.List.{drop_all}
 use Rattle.trace.specs.declared.access.Access.{Access}
 use Rattle.trace.specs.declared.access.Access.TheVariants.{Read, Write, Flush, Settle}
@@ -28,7 +28,7 @@ goes_on t i j a h e =
     let m = length-append (written x.form) x.rest in
     (omega (arith, x.place, some_bytes x.form), omega (arith, x.place, n, m, length-drop i t, h))
 
-written_back : (t : List ℕ) (i : ℕ) (xs : List Access) → i ≤ length t → All Sound xs → drop i t ≡ flat_map written xs → Accesses t i xs None
+written_back : (t : List ℕ) (i : ℕ) (xs : List Access) → i ≤ length t → AllByRecursion Sound xs → drop i t ≡ flat_map written xs → Accesses t i xs None
 written_back t i [] h g e = ended (omega (arith, h, length-drop i t, ap length e))
 written_back t i (a ∷ xs) h g e =
     let n = length-drop i t in
@@ -38,7 +38,7 @@ written_back t i (a ∷ xs) h g e =
     let r = access-grammar.back a g.0 t i (flat_map written xs) e (all-stop (flat_map written xs)) in
     more (omega (arith, n, m, l, s, h)) r (written_back t (i + length (written a)) xs (omega (arith, n, m, l, h)) g.1 (from_on t i (written a) (flat_map written xs) e))
 
-as_written : (t : List ℕ) (i : ℕ) (xs : List Access) (o : Option LineFault) → i ≤ length t → Accesses t i xs o → o ≡ None → All Sound xs × (drop i t ≡ flat_map written xs)
+as_written : (t : List ℕ) (i : ℕ) (xs : List Access) (o : Option LineFault) → i ≤ length t → Accesses t i xs o → o ≡ None → AllByRecursion Sound xs × (drop i t ≡ flat_map written xs)
 as_written t i [] o h (ended e) q = (tt, drop_all i t (omega (arith, e)))
 as_written t i [] o h (faulty l e) q = absurd (let z : ◌≡◌ {A = ℕ} 0 1 = cc in omega arith)
 as_written t i (a ∷ xs) o h (more {j = j} l e r) q =

@@ -7,7 +7,7 @@
 -- AccessLaws reading whole texts against their written form
 -- NextRead   the next access line, its fault, or the end of the text
 use Rattle.std.specs.Prelude.{◌≡◌, ℕ, ◌<◌, cond, List, [], ◌∷◌, length, drop, Some, None, Ok, Err, Option, Result, nat_lt}
-use Rattle.std.specs.List.{flat_map, AllByRecursion as All}
+use Rattle.std.specs.List.{flat_map, AllByRecursion}
 use Rattle.refusal.specs.Refusals.{plain}
 use Rattle.trace.specs.declared.access.Access.{Access}
 use Rattle.trace.specs.declared.bus_line.BusLine.{BusLine}
@@ -55,7 +55,7 @@ pub data Accesses (t : List ℕ) : ℕ → List Access → Option LineFault → 
 
 -- the lines are written so, one behind the other, and no byte follows
 abbrev pub WrittenFrom : List ℕ → ℕ → List Access → Type 0
-WrittenFrom t i xs = All Sound xs × (drop i t ≡ flat_map written xs)
+WrittenFrom t i xs = AllByRecursion Sound xs × (drop i t ≡ flat_map written xs)
 
 -- what is written is read back, what is read to the end is written so, and there is one reading
 pub record AccessLaws (t : List ℕ) (i : ℕ) : Type 0 where

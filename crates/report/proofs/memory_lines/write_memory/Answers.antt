@@ -1,4 +1,4 @@
-use Rattle.std.proofs.Common.{◌≡◌, ◌<◌, ◌≤◌, ◌++◌, length, string_bytes, ap, ◌∙◌, rules}
+use Rattle.std.proofs.Common.{◌<◌, ◌≤◌, ◌++◌, length, string_bytes, ap, ◌∙◌, rules}
 use Rattle.memory.specs.Words.{plain_lines}
 use Rattle.report.specs.Printed.{memory_lines}
 use Rattle.report.proofs.Memories.{lines-go, lines_end, below-read}
