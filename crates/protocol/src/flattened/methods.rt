@@ -1,7 +1,6 @@
 // Writing a protocol out, and the answers of the table.
 ghost use Rattle.std.specs.Prelude.{◌≡◌, ℕ, ◌<◌, length, slice_index};
 ghost use Rattle.protocol.specs.Flattened.{rows_answer, Alike};
-ghost use Rattle.std.proofs.Common.{rules, arith};
 
 use super::Flattened;
 use crate::cell::Cell;
@@ -34,7 +33,7 @@ fn row<P: Protocol>(protocol: &P, seat: usize) -> [u8; 16]
 impl Protocol for Flattened {
     ghost cells = { λ f seat k. rows_answer f.rows seat k };
 
-    ghost lawful = { first_of (Prim.search rules, Prim.grind (arith, Self.row.coded.inj)) };
+    ghost lawful = { λ f seat k. f.lawful seat k };
 
     fn cell(&self, seat: usize, cell: u8) -> u8 {
         if cell < Cell::COUNT {
