@@ -1,4 +1,6 @@
 // busbench: so many accesses of two workloads on eight seats under seven protocols, what they gave and how long they took.
+#![tactic(auto)]
+
 mod mixture;
 mod print;
 mod stream;

@@ -1,4 +1,6 @@
 // busrun: reads a trace text from standard input, and prints the report of its run.
+#![tactic(auto)]
+
 use report::report_text;
 use std::io::Read;
 use trace::LONGEST;

@@ -1,4 +1,6 @@
 // Memories at work: generic code over any memory, a memory that counts what reaches it, and runs of the write buffer.
+#![tactic(auto)]
+
 mod counting;
 mod generic;
 

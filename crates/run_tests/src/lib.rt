@@ -1,3 +1,5 @@
+#![tactic(auto)]
+
 // Tests of whole runs: a session replayed, refusals in their order, the call limit, the sizes, many accesses under seven protocols.
 #[cfg(test)]
 mod limit;

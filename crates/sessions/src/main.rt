@@ -1,4 +1,6 @@
 // sessions: for each name on standard input, runs the text in NAME.in and compares its report with NAME.out.
+#![tactic(auto)]
+
 use report::report_text;
 use std::alloc::{AllocError, Global};
 use std::{fs, io};

@@ -1,4 +1,6 @@
 // walkthrough: one session on a mixed bus, call by call, laid out for a person to follow.
+#![tactic(auto)]
+
 mod calls;
 mod closing;
 mod records;
