@@ -1,8 +1,8 @@
 // A write buffer over any memory: up to four written lines wait before they go down.
-ghost use Rattle.std.specs.Prelude.{◌≡◌, ◌<◌, false, [], OnOk, slice_set};
+ghost use Rattle.std.specs.Prelude.{◌≡◌, ◌<◌, ◌≤◌, false, [], length, OnOk, slice_set};
 ghost use Rattle.refusal.specs.Refusals.{Answers, Kept};
 ghost use Rattle.memory.specs.Lines.{words_in_line, line_due, word_due, word_written};
-ghost use Rattle.memory.specs.Ages.{Apart, full, holds};
+ghost use Rattle.memory.specs.Ages.{Apart, full, holds, most_waiting};
 ghost use Rattle.memory.specs.Waits.{waiting_in};
 ghost use Rattle.memory.specs.Buffers.{buffer, seen, sent_from, come, room_made, line_taken, word_taken, all_sent};
 ghost use Rattle.memory.specs.Buffered.{lawful-buffer};
@@ -34,6 +34,7 @@ impl<M: Memory> WriteBuffer<M> {
     pub fn waiting(&self) -> &[Waiting]
         ensures lines { result.now ≡ waiting_in self.now.queue }
         ensures apart { Apart result.now }
+        ensures few { length result.now ≤ most_waiting }
     {
         self.queue.waiting()
     }

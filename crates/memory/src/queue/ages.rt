@@ -1,6 +1,6 @@
 // What is done with the waiting lines: each keeps its place, the oldest leaves first, a new one comes last.
-ghost use Rattle.std.specs.Prelude.{◌≡◌, ◌<◌, false, [], ◌∷◌, ◌++◌, length, get_or, set, MatchOption, slice_index_or, slice_set};
-ghost use Rattle.memory.specs.Ages.{blank, Apart, full, holds, Newest, waits, with_words};
+ghost use Rattle.std.specs.Prelude.{◌≡◌, ◌<◌, ◌≤◌, false, [], ◌∷◌, ◌++◌, length, get_or, set, MatchOption, slice_index_or, slice_set};
+ghost use Rattle.memory.specs.Ages.{blank, Apart, full, holds, most_waiting, Newest, waits, with_words};
 ghost use Rattle.memory.specs.Lines.{words_in_line};
 ghost use Rattle.memory.specs.Waits.{waiting_in};
 
@@ -25,6 +25,7 @@ impl Queue {
     pub fn waiting(&self) -> &[Waiting]
         ensures lines { result.now ≡ waiting_in self.now }
         ensures apart { Apart result.now }
+        ensures few { length result.now ≤ most_waiting }
     {
         &self.table[0..self.count]
     }
