@@ -1,4 +1,7 @@
 // What the bus tells of one transaction.
+ghost use Rattle.std.specs.Prelude.{◌≡◌};
+ghost use Rattle.rules.specs.Machines.{owner_or_memory};
+
 use protocol::Transaction;
 
 /// Who supplied the line.
@@ -27,4 +30,28 @@ pub struct Record {
     pub reflected: bool,
     /// Who supplied the line.
     pub supplier: Supplier,
+}
+
+impl From<Option<usize>> for Supplier {
+    ghost from_gives = { λ owner supplier. supplier ≡ owner_or_memory owner };
+
+    /// The owner's seat, or else memory.
+    fn from(owner: Option<usize>) -> Supplier {
+        match owner {
+            Some(seat) => Supplier::Seat(seat),
+            None => Supplier::Memory,
+        }
+    }
+}
+
+impl Record {
+    /// What stands in a place for a record before one is made there.
+    pub const UNMADE: Record = Record {
+        transaction: Transaction::WriteBack,
+        seat: 0,
+        line: 0,
+        shared: false,
+        reflected: false,
+        supplier: Supplier::Nobody,
+    };
 }

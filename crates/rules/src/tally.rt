@@ -1,7 +1,7 @@
 // What a run counts.
 
 /// The counts of a run since its opening.
-#[derive(Clone, Copy, PartialEq, Eq, Debug)]
+#[derive(Clone, Copy, PartialEq, Eq, Debug, Default)]
 pub struct Tally {
     /// Answered reads.
     pub reads: u32,
