@@ -4,17 +4,17 @@
 -- Halt       what stopped a text: the refusal told, the line counted from 1, the byte counted from 0
 -- Outcome    a text refused before its first access; or its accesses performed, what stopped them, and the closing
 -- performed, halted, outcome_of   the same of the code's step, stop and account
-use Rattle.std.specs.Prelude.{ℕ, List, map, take, vec_items, Option}
+use Rattle.std.specs.Prelude.{ℕ, List, map, take, vec_items, Option, Result, Ok, Err}
 use Rattle.std.specs.Option.{option_map}
 use Rattle.refusal.specs.Refusals.{Told}
 use Rattle.protocol.specs.declared.state.State.{State}
 use Rattle.rules.specs.declared.record.Record.{Record}
 use Rattle.rules.specs.Systems.{Closing}
+use Rattle.memory.specs.declared.plain_memory.Plain.{Plain}
 use Rattle.memory.specs.Words.{plain_lines}
+use Rattle.run.specs.declared.closed.Closed.{Closed}
 use Rattle.trace.specs.declared.access.Access.{Access}
 use Rattle.trace.specs.Faults.{trace_stop}
-use Rattle.account.specs.declared.account.Account.{Account}
-use Rattle.account.specs.declared.account.Account.TheVariants as account
 use Rattle.account.specs.declared.account.Ran.{Ran}
 use Rattle.account.specs.declared.step.Step.{Step}
 use Rattle.account.specs.declared.stop.Stop.{Stop}
@@ -42,8 +42,8 @@ abbrev pub performed : Step → Performed
 performed s = record {
   access = s.access;
   answer = s.answer;
-  states = take s.seats s.states;
-  records = take s.made s.records;
+  states = take s.states.count s.states.items;
+  records = take s.records.count s.records.items;
 }
 
 -- a stop of the code
@@ -51,10 +51,10 @@ abbrev pub halted : Stop → Halt
 halted s = record { told = (trace_stop s.fault).told; line = s.line; byte = (trace_stop s.fault).byte }
 
 -- what closing gave
-abbrev pub closing_of : Ran → Closing
-closing_of r = record { memory = plain_lines r.memory; tally = r.tally; lines = r.written }
+abbrev pub closing_of : Closed Plain → Closing
+closing_of c = record { memory = plain_lines c.memory; tally = c.tally; lines = c.written }
 
 -- an account of the code
-abbrev pub outcome_of : Account → Outcome
-outcome_of (account.Refused s) = refused (halted s)
-outcome_of (account.Ran r) = ran (map performed (vec_items r.steps)) (option_map halted r.stop) (closing_of r)
+abbrev pub outcome_of : Result Ran Stop → Outcome
+outcome_of (Err s) = refused (halted s)
+outcome_of (Ok r) = ran (map performed (vec_items r.steps)) (option_map halted r.stop) (closing_of r.closed)

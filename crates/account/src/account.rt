@@ -2,7 +2,7 @@
 use crate::step::Step;
 use crate::stop::Stop;
 use memory::Plain;
-use rules::Tally;
+use run::Closed;
 
 /// What the accesses of a text did, what stopped them, and what closing gave.
 #[derive(Drop)]
@@ -11,19 +11,10 @@ pub struct Ran {
     pub steps: Vec<Step>,
     /// The fault in an access line that ended the accesses, if one did.
     pub stop: Option<Stop>,
-    /// The lines that the closing settle wrote back.
-    pub written: u32,
-    /// What was counted.
-    pub tally: Tally,
-    /// The memory after closing.
-    pub memory: Plain,
+    /// The memory after closing, what was counted, and the lines that the closing settle wrote back.
+    pub closed: Closed<Plain>,
 }
 
-/// The account of a text.
-#[derive(Drop)]
-pub enum Account {
-    /// The text, its bus line or its setup was refused, and no run was opened.
-    Refused(Stop),
-    /// A run was opened and closed.
-    Ran(Ran),
-}
+/// The account of a text: a run that was opened and closed, or what refused the text, its bus line or its setup, where no
+/// run was opened.
+pub type Account = Result<Ran, Stop>;

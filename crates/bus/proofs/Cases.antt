@@ -2,25 +2,16 @@
 use Rattle.std.proofs.Common.{◌≡◌, ℕ, Bool, true, false, List, [], get_or, set, Option, refl, ap, ◌∙◌}
 use Rattle.protocol.specs.declared.state.State.{State}
 use Rattle.protocol.specs.declared.transaction.Transaction.{Transaction}
-use Rattle.protocol.specs.declared.transaction.Transaction.TheVariants.{ThroughInvalidate, WriteBack}
-use Rattle.protocol.specs.States.{owned}
+use Rattle.protocol.specs.declared.transaction.Transaction.TheVariants.{ThroughInvalidate}
 use Rattle.protocol.specs.Transactions.{digit_transaction}
 use Rattle.rules.specs.Columns.{none, owner_of}
-use Rattle.rules.specs.Transactions.{Protocol, write_back, dropped, through_invalidate}
+use Rattle.rules.specs.Transactions.{Protocol, through_invalidate}
 use Rattle.rules.specs.Caches.{room, victim, lines_at}
 use Rattle.rules.specs.Tallies.{one_displaced, one_flushed}
-use Rattle.rules.specs.Machines.{Machine, column, holds, change, transact}
-use Rattle.rules.specs.Accesses.{counting, state_in, written_back_if, let_go, emptied_if, emptied, flushed_if, flushed, filled, fetched_if, fetched, owner_writes_back, saved_from, through, written_at, written_held, missed_by, written_if, written, flushed_each, flushed_set}
+use Rattle.rules.specs.Machines.{Machine, column, holds, transact}
+use Rattle.rules.specs.Accesses.{counting, state_in, let_go, emptied_if, emptied, flushed_if, flushed, filled, fetched_if, fetched, owner_writes_back, saved_from, through, written_at, written_held, missed_by, written_if, written, flushed_each, flushed_set}
 
 module _ (r n : ℕ) (m : Machine) where
-  pub let_go-owned : owned (state_in r n m) ≡ true → let_go r n m ≡ change n (dropped r) (transact WriteBack r n (write_back r) m)
-  unfolding let_go
-  let_go-owned e = ap (λ (b : Bool). change n (dropped r) (written_back_if b r n m)) e
-
-  pub let_go-free : owned (state_in r n m) ≡ false → let_go r n m ≡ change n (dropped r) m
-  unfolding let_go
-  let_go-free e = ap (λ (b : Bool). change n (dropped r) (written_back_if b r n m)) e
-
   pub emptied-room : room (get_or m.caches r []) n ≡ true → emptied r n m ≡ m
   unfolding emptied
   emptied-room e = ap (λ (b : Bool). emptied_if b r n m) e

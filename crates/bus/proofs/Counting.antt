@@ -1,20 +1,8 @@
 -- Copies lost and seats alone: what a change of the requester's own copy leaves of them.
-use Rattle.std.proofs.Common.{◌≡◌, ℕ, zero, suc, ◌+◌, ◌≤◌, Bool, true, false, not, ◌&&◌, List, [], ◌∷◌, length, set, refl, ap, arith, length-set, set-set}
+use Rattle.std.proofs.Common.{◌≡◌, ℕ, zero, suc, ◌+◌, Bool, true, false, not, ◌&&◌, List, [], ◌∷◌, set, refl, ap, arith, set-set}
 use Rattle.protocol.specs.States.{valid}
 use Rattle.rules.specs.Columns.{Copy, none, one, some, alone}
 use Rattle.rules.specs.Machines.{lost_in, lost}
-
-one-most : (b : Bool) → one b ≤ 1
-one-most true = omega arith
-one-most false = omega arith
-
-pub lost_in-most : (xs ys : List Copy) → lost_in xs ys ≤ length xs
-lost_in-most [] ys = omega arith
-lost_in-most (x ∷ xs) [] = omega arith
-lost_in-most (x ∷ xs) (y ∷ ys) = omega (arith, one-most (valid x.state && not (valid y.state)), lost_in-most xs ys)
-
-pub lost-most : (r : ℕ) (xs ys : List Copy) → lost r xs ys ≤ length xs
-lost-most r xs ys = omega (arith, lost_in-most (set xs r none) ys, length-set xs r none)
 
 not-and : (b : Bool) → (b && not b) ≡ false
 not-and true = refl

@@ -7,3 +7,5 @@ pub mod Obeying
 pub mod Reacted
 pub mod Requests
 pub mod Choosing
+pub mod Telling
+pub mod Writing

@@ -40,3 +40,7 @@ module _ (cs : List Cache) (ls : List (List ℕ)) (t : Tally) (n : ℕ) (f : Col
 -- a line put where it stands
 pub home_stays : (ls : List (List ℕ)) (n : ℕ) → ls ≡ set ls n (get_or ls n [])
 home_stays ls n = sym (set-get_or ls n [])
+
+-- a record made and handed on, whose one part is known by another name
+pub handed : {A B : Type 0} (f : A → B) {e made : B} {x y : A} → e ≡ made → made ≡ f x → x ≡ y → e ≡ f y
+handed f a b c = cc

@@ -13,10 +13,10 @@ use Rattle.caches.proofs.Places.{caches-long}
 use Rattle.bus.proofs.Turns.{own-stays, then-own}
 
 -- as many copies of a line as there are seats
-pub copies-long : (s : Caches) (n : ℕ) → length (copies_of n (caches_of s)) ≡ s.seats
+pub copies-long : (s : Caches) (n : ℕ) → length (copies_of n (caches_of s)) ≡ s.agreed.seats
 copies-long s n = length-map (caches_of s) (λ c. look c n) ∙ caches-long s
 
-module _ (s : Caches) (n r : ℕ) (on : r < s.seats) (h : ℕ → State → State) (w : List ℕ → List ℕ) where
+module _ (s : Caches) (n r : ℕ) (on : r < s.agreed.seats) (h : ℕ → State → State) (w : List ℕ → List ℕ) where
   -- the copies after the others have reacted, the requester's among them
   abbrev pub heard : List Copy
   heard = hear h w 0 (copies_of n (caches_of s))
@@ -28,7 +28,7 @@ module _ (s : Caches) (n r : ℕ) (on : r < s.seats) (h : ℕ → State → Stat
   there = omega (arith, caches-long s)
 
   -- a copy put into the requester's place is there
-  pub own-there : (xs : List Copy) (x : Copy) → length xs ≡ s.seats → get_or (set xs r x) r none ≡ x
+  pub own-there : (xs : List Copy) (x : Copy) → length xs ≡ s.agreed.seats → get_or (set xs r x) r none ≡ x
   own-there xs x e = get_or-set_same xs r x none (omega arith)
 
   -- the requester's copy as the others have reacted

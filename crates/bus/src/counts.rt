@@ -1,38 +1,16 @@
-// The tally's counting: one function for each event that moves its numbers.
+// The tally's counting of transactions.
 ghost use Rattle.std.specs.Prelude.{◌≡◌, ◌+◌, ◌≤◌};
-ghost use Rattle.rules.specs.Tallies.{blank, tallied, one_displaced, one_flushed, one_read, one_write};
+ghost use Rattle.rules.specs.Tallies.{tallied, one_read, one_write};
 ghost use Rattle.bus.specs.Totals.{total, Room};
 
 use protocol::Transaction;
 use rules::{Record, Tally};
 
-/// The tally of a bus just opened.
-pub fn nothing_counted() -> Tally
-    ensures { result ≡ blank }
-{
-    Tally {
-        reads: 0,
-        writes: 0,
-        hits: 0,
-        rs: 0,
-        rx: 0,
-        inv: 0,
-        up: 0,
-        tu: 0,
-        ti: 0,
-        wb: 0,
-        reflected: 0,
-        fills: 0,
-        displaced: 0,
-        flushed: 0,
-        invalidated: 0,
-    }
-}
-
-/// Counts a transaction: the transaction itself, a fill, a reflection, and the copies that it made Invalid.
-pub fn count_transaction(tally: &mut Tally, event: &Record, lost: u32)
+/// Counts a transaction: the transaction itself, a fill, a reflection, and the copies that it made Invalid. Hands its record on.
+pub fn tell(tally: &mut Tally, event: Record, lost: u32) -> Record
     requires { Room (3 + lost) tally.old }
-    ensures value { tally.new ≡ tallied event.now lost tally.old }
+    ensures event { result ≡ event }
+    ensures value { tally.new ≡ tallied result lost tally.old }
     ensures most { total tally.new ≤ total tally.old + (3 + lost) }
 {
     match event.transaction {
@@ -54,24 +32,7 @@ pub fn count_transaction(tally: &mut Tally, event: &Record, lost: u32)
         tally.reflected += 1;
     }
     tally.invalidated += lost;
-}
-
-/// Counts a copy that went to make room.
-pub fn count_displaced(tally: &mut Tally)
-    requires { Room 1 tally.old }
-    ensures value { tally.new ≡ one_displaced tally.old }
-    ensures most { total tally.new ≤ total tally.old + 1 }
-{
-    tally.displaced += 1;
-}
-
-/// Counts a copy that was flushed.
-pub fn count_flushed(tally: &mut Tally)
-    requires { Room 1 tally.old }
-    ensures value { tally.new ≡ one_flushed tally.old }
-    ensures most { total tally.new ≤ total tally.old + 1 }
-{
-    tally.flushed += 1;
+    event
 }
 
 /// Counts an answered read, and a hit if its line was held.
@@ -86,6 +47,7 @@ pub fn count_read(tally: &mut Tally, hit: bool)
     }
 }
 
+// Apart from the read's count, since which number moves would be a parameter that the contract has to read by cases.
 /// Counts an answered write, and a hit if its line was held.
 pub fn count_write(tally: &mut Tally, hit: bool)
     requires { Room 2 tally.old }

@@ -6,8 +6,8 @@ ghost use Rattle.rules.specs.Transactions.{after_rs, after_up, after_tu, after_t
 ghost use Rattle.rules.specs.Machines.{copies_of, put_each};
 ghost use Rattle.caches.specs.Views.{caches_of};
 
-use caches::{Caches, cell_state};
-use protocol::{Protocol, State, filled_alone};
+use caches::{Caches, Store, cell_state};
+use protocol::{Cell, Protocol, State, filled_alone};
 
 /// After a read shared: cell 3 when alone.
 pub fn after_read<P: Protocol>(protocol: &P, seat: usize, alone: bool) -> State
@@ -26,7 +26,7 @@ pub fn after_update<P: Protocol>(protocol: &P, seat: usize, alone: bool) -> Stat
     ensures { result ≡ after_up (P.cells protocol.now seat) alone }
 {
     if alone {
-        cell_state(protocol, seat, 4)
+        cell_state(protocol, seat, Cell::UpdatedAlone.number())
     } else {
         State::Owned
     }
@@ -43,9 +43,17 @@ pub fn after_through_update<P: Protocol>(
 {
     match (state, alone) {
         (State::Invalid, _) => State::Invalid,
-        (State::Shared | State::Exclusive, true) => cell_state(protocol, seat, 5),
+        (State::Shared | State::Exclusive, true) => cell_state(
+            protocol,
+            seat,
+            Cell::ThroughUpdatedAloneAtShared.number(),
+        ),
         (State::Shared | State::Exclusive, false) => State::Shared,
-        (State::Owned | State::Modified, true) => cell_state(protocol, seat, 6),
+        (State::Owned | State::Modified, true) => cell_state(
+            protocol,
+            seat,
+            Cell::ThroughUpdatedAloneAtOwned.number(),
+        ),
         (State::Owned | State::Modified, false) => State::Owned,
     }
 }
@@ -56,8 +64,16 @@ pub fn after_through_invalidate<P: Protocol>(protocol: &P, seat: usize, state: S
 {
     match state {
         State::Invalid => State::Invalid,
-        State::Shared | State::Exclusive => cell_state(protocol, seat, 7),
-        State::Owned | State::Modified => cell_state(protocol, seat, 8),
+        State::Shared | State::Exclusive => cell_state(
+            protocol,
+            seat,
+            Cell::ThroughInvalidatedAtShared.number(),
+        ),
+        State::Owned | State::Modified => cell_state(
+            protocol,
+            seat,
+            Cell::ThroughInvalidatedAtOwned.number(),
+        ),
     }
 }
 
@@ -67,23 +83,15 @@ pub fn keep_through<P: Protocol>(
     protocol: &P,
     seat: usize,
     line: usize,
-    word: usize,
-    value: u32,
+    store: Store,
 )
-    requires on { seat < caches.old.seats }
-    requires within { word < 4 }
-    ensures caches { caches_of caches.new ≡ put_each line (caches_of caches.old) (slice_set (copies_of line (caches_of caches.old)) seat (kept (after_ti (P.cells protocol.now seat) (state_at (copies_of line (caches_of caches.old)) seat)) (slice_set (words_at (copies_of line (caches_of caches.old)) seat) word value))) }
-    ensures seats { caches.new.seats ≡ caches.old.seats }
-    ensures sets { caches.new.sets ≡ caches.old.sets }
+    requires on { seat < caches.old.agreed.seats }
+    ensures caches { caches_of caches.new ≡ put_each line (caches_of caches.old) (slice_set (copies_of line (caches_of caches.old)) seat (kept (after_ti (P.cells protocol.now seat) (state_at (copies_of line (caches_of caches.old)) seat)) (slice_set (words_at (copies_of line (caches_of caches.old)) seat) store.word store.value))) }
+    ensures agreed { caches.new.agreed ≡ caches.old.agreed }
 {
     let state = caches.state(seat, line);
     if state.is_valid() {
-        caches.write(
-            seat,
-            line,
-            after_through_invalidate(protocol, seat, state),
-            word,
-            value,
-        );
+        let after = after_through_invalidate(protocol, seat, state);
+        caches.write(seat, line, after, store);
     }
 }

@@ -1,32 +1,19 @@
 // Who supplies a line that a seat takes, and whether memory receives it too.
-ghost use Rattle.std.specs.Prelude.{◌≡◌, ◌<◌, [], length, is_some, if◌then◌else◌, slice_index_or, slice_set};
-ghost use Rattle.rules.specs.Machines.{owner_or_memory};
+ghost use Rattle.std.specs.Prelude.{◌≡◌, ◌<◌, [], length, if◌then◌else◌, slice_index_or, slice_set};
+ghost use Rattle.std.specs.Option.{option_map_or};
+ghost use Rattle.caches.specs.declared.heeded.Owner.{Owner};
 
-use caches::Heeded;
+use caches::Owner;
 use memory::Memory;
-use rules::Supplier;
-
-/// The owner's seat, or else memory.
-pub fn supplier(owner: Option<usize>) -> Supplier
-    ensures { result ≡ owner_or_memory owner }
-{
-    match owner {
-        Some(seat) => Supplier::Seat(seat),
-        None => Supplier::Memory,
-    }
-}
 
 /// The words that the bus gives: the owner's, or else memory's.
-pub fn supply<M: Memory>(memory: &M, line: usize, heeded: Heeded) -> [u32; 4]
+pub fn supply<M: Memory>(memory: &M, line: usize, owner: Option<Owner>) -> [u32; 4]
     requires { line < length (M.lines memory.now) }
-    ensures { result ≡ (if is_some heeded.owner then heeded.words else slice_index_or (M.lines memory.now) line []) }
+    ensures { result ≡ option_map_or (λ (o : Owner). o.words) owner (slice_index_or (M.lines memory.now) line []) }
 {
-    if heeded.owner.is_some() {
-        return heeded.words;
-    }
-    match memory.read_line(line) {
-        Ok(words) => words,
-        Err(_) => unreachable(),
+    match owner {
+        Some(owner) => owner.words,
+        None => memory.read_line(line).unwrap(),
     }
 }
 

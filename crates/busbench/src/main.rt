@@ -1,17 +1,16 @@
 // busbench: so many accesses of two workloads on eight seats under seven protocols, what they gave and how long they took.
 #![tactic(auto)]
 
+mod measure;
 mod mixture;
-mod print;
 mod stream;
 mod sums;
 mod workload;
 
-use anyhow::anyhow;
-use print::{print_sums, print_time};
-use std::env;
-use std::time::Instant;
-use workload::{Workload, measure};
+use measure::measure;
+use std::time::{Duration, Instant};
+use std::{env, io};
+use workload::Workload;
 
 /// The accesses of each workload where no count is given.
 const USUAL: u64 = 1_000_000;
@@ -27,7 +26,7 @@ fn bench(rt: &HostRuntime) -> anyhow::Result<()> {
         None => USUAL,
     };
     match env::args(rt)?.nth(2) {
-        Some(word) => bench_one(rt, workload_named(word.as_str())?, count),
+        Some(word) => bench_one(rt, word.as_str().parse::<Workload>()?, count),
         None => bench_both(rt, count),
     }
 }
@@ -38,21 +37,23 @@ fn bench_both(rt: &HostRuntime, count: u64) -> anyhow::Result<()> {
     bench_one(rt, Workload::Local, count)
 }
 
-// The workload of a number.
-fn workload_named(word: &str) -> anyhow::Result<Workload> {
-    match word {
-        "1" => Ok(Workload::Scattered),
-        "2" => Ok(Workload::Local),
-        _ => Err(anyhow!("there are workloads 1 and 2")),
-    }
-}
-
-// What a workload gave goes to standard output, how long it took to standard error.
+// What a workload gave goes to standard output, the same on every machine, and how long it took to standard error.
 fn bench_one(rt: &HostRuntime, workload: Workload, count: u64) -> anyhow::Result<()> {
     let start = Instant::now(rt)?;
     let sums = measure(rt.alloc(), workload, count)?;
     let took = start.elapsed(rt)?;
-    print_sums(rt, workload, &sums)?;
+    println!(rt; "{workload}\n{sums}")?;
     print_time(rt, count, took)?;
     Ok(())
+}
+
+// How long the accesses took, and how many that is a second.
+fn print_time(rt: &impl Eprint, accesses: u64, took: Duration) -> io::Result<()> {
+    let micros = took.as_micros();
+    let rate = u128::from(accesses) * 1_000_000 / micros.max(1);
+    eprintln!(rt;
+        "accesses {accesses} seconds {}.{:06} accesses_per_second {rate}",
+        micros / 1_000_000,
+        micros % 1_000_000
+    )
 }

@@ -1,6 +1,8 @@
 -- What a place tells of the seat's copy of a line, and of its set.
-use Rattle.std.proofs.Common.{◌≡◌, ℕ, ◌%◌, ◌<◌, Bool, true, false, cond, not, ◌&&◌, ◌||◌, eqb, List, [], ◌∷◌, get_or, sym, refl, ap, ◌∙◌, ⊎_elim}
-use Rattle.std.proofs.lemmas.Bool.{cases_Bool, cond-true, cond-false, eq-eqb, ne_eqb, and_left, and_parts, both_ways, false≢true}
+use Rattle.std.proofs.Common.{IfSome, Some, None, Option, ◌≡◌, ℕ, ◌%◌, ◌<◌, Bool, true, false, cond, not, ◌&&◌, ◌||◌, eqb, List, [], ◌∷◌, get_or, sym, refl, ap, ◌∙◌, ⊎_elim}
+use Rattle.std.specs.Bool.{then_some}
+use Rattle.std.specs.Option.{option_to_list}
+use Rattle.std.proofs.lemmas.Bool.{cases_Bool, cond-true, eq-eqb, ne_eqb, and_left, and_parts, both_ways, false≢true}
 use Rattle.protocol.specs.declared.state.State.{State}
 use Rattle.protocol.specs.declared.state.State.TheVariants.{Invalid, Shared, Exclusive, Owned, Modified}
 use Rattle.protocol.specs.States.{valid}
@@ -35,23 +37,14 @@ found-state Owned w true e = refl
 found-state Modified w true e = refl
 found-state t w false e = absurd (false≢true e)
 
--- room in one way: its line is this one or not, it is full or not
-own_room : (a v : Bool) → a ≡ true → (((a && v) || false) || (not v || false)) ≡ true
-own_room true true e = refl
-own_room true false e = refl
-own_room false v e = absurd (false≢true e)
+-- one way has room unless another line stands there, by its tag and whether it is full
+room-one : (a v : Bool) → (((a && v) || false) || (not v || false)) ≡ not (not a && v)
+room-one true true = refl
+room-one true false = refl
+room-one false true = refl
+room-one false false = refl
 
-empty-room : (a v : Bool) → v ≡ false → (((a && v) || false) || (not v || false)) ≡ true
-empty-room true false e = refl
-empty-room false false e = refl
-empty-room a true e = absurd (false≢true (sym e))
-
-no_room : (a v : Bool) → a ≡ false → v ≡ true → (((a && v) || false) || (not v || false)) ≡ false
-no_room false true e h = refl
-no_room false false e h = absurd (false≢true h)
-no_room true v e h = absurd (false≢true (sym e))
-
-module _ (s : Caches) (k : ℕ) (on : k < s.seats) (n : ℕ) where
+module _ (s : Caches) (k : ℕ) (on : k < s.agreed.seats) (n : ℕ) where
   -- one seat of the column
   pub state-at : state_at (copies_of n (caches_of s)) k ≡ (look (get_or (caches_of s) k []) n).state
   state-at = ap (λ (x : Copy). x.state) (column-at n (caches_of s) k)
@@ -62,7 +55,7 @@ module _ (s : Caches) (k : ℕ) (on : k < s.seats) (n : ℕ) where
   told : (t : State) → t ≡ (look (get_or (caches_of s) k []) n).state → StateIs s k n t
   told t e = record { value = e ∙ sym state-at; seat = e }
 
-  module _ (i : ℕ) (here : i ≡ n % s.sets) where
+  module _ (i : ℕ) (here : i ≡ n % s.agreed.sets) where
     place_here : get_or (get_or s.table k []) i blank ≡ place_in s k n
     place_here = ap (λ (j : ℕ). get_or (get_or s.table k []) j blank) here
 
@@ -110,41 +103,47 @@ module _ (s : Caches) (k : ℕ) (on : k < s.seats) (n : ℕ) where
     unfolding victim
     victim-tag = ap lowest (single s k on n ∙ ap (λ (p : CacheLine). slot_of p ∷ []) (sym place_here))
 
-    pub room-here : (get_or (get_or s.table k []) i blank).tag ≡ n → room (get_or (caches_of s) k []) n ≡ true
-    room-here e =
-        let p = get_or (get_or s.table k []) i blank in
-        room-ways ∙ own_room (eqb p.tag n) (valid p.state) (eq-eqb p.tag n e)
-
-    pub room-empty : valid (get_or (get_or s.table k []) i blank).state ≡ false → room (get_or (caches_of s) k []) n ≡ true
-    room-empty e = let p = get_or (get_or s.table k []) i blank in room-ways ∙ empty-room (eqb p.tag n) (valid p.state) e
-
-    pub room-none : ((get_or (get_or s.table k []) i blank).tag ≡ n → ⊥) → valid (get_or (get_or s.table k []) i blank).state ≡ true → room (get_or (caches_of s) k []) n ≡ false
-    room-none ne e =
-        let p = get_or (get_or s.table k []) i blank in
-        room-ways ∙ no_room (eqb p.tag n) (valid p.state) (ne_eqb p.tag n ne) e
-
-    -- what stands in the place of a line is of the same set, and held
-    pub occupant-home : valid (get_or (get_or s.table k []) i blank).state ≡ true → (get_or (get_or s.table k []) i blank).tag % s.sets ≡ n % s.sets
-    occupant-home e = s.homed k i e ∙ here
-
 -- the line that stands in a place is held
-pub occupant-held : (s : Caches) (k : ℕ) → k < s.seats → (i : ℕ) → valid (get_or (get_or s.table k []) i blank).state ≡ true →
+pub occupant-held : (s : Caches) (k : ℕ) → k < s.agreed.seats → (i : ℕ) → valid (get_or (get_or s.table k []) i blank).state ≡ true →
     valid (state_at (copies_of (get_or (get_or s.table k []) i blank).tag (caches_of s)) k) ≡ true
 occupant-held s k on i e =
     let v = (get_or (get_or s.table k []) i blank).tag in
     ap valid (sym (state-here s k on v i (sym (s.homed k i e)) refl).value) ∙ e
 
--- the lines that stand in a set
-pub lines-one : (s : Caches) (k : ℕ) → k < s.seats → (i : ℕ) → i < s.sets → valid (get_or (get_or s.table k []) i blank).state ≡ true →
-    (get_or (get_or s.table k []) i blank).tag ∷ [] ≡ lines_at (get_or (caches_of s) k []) i
-unfolding lines_at
-lines-one s k on i l e =
-    let p = get_or (get_or s.table k []) i blank in
-    sym (ap lines_of (single-at s k on i l) ∙ cond-true (valid p.state) (p.tag ∷ []) [] e)
+-- the line that has to go, if there is one: where another line is held in the place
+pub record Occupant (s : Caches) (k n : ℕ) (r : Option ℕ) : Type 0 where
+  pub answer : r ≡ cond (room (get_or (caches_of s) k []) n) None (Some (victim (get_or (caches_of s) k []) n))
+  pub stands : IfSome r (λ v. (v % s.agreed.sets ≡ n % s.agreed.sets) × (valid (state_at (copies_of v (caches_of s)) k) ≡ true))
 
-pub lines_none : (s : Caches) (k : ℕ) → k < s.seats → (i : ℕ) → i < s.sets → valid (get_or (get_or s.table k []) i blank).state ≡ false →
-    [] ≡ lines_at (get_or (caches_of s) k []) i
-unfolding lines_at
-lines_none s k on i l e =
+pub occupant-told : (s : Caches) (k : ℕ) → k < s.agreed.seats → (n i : ℕ) → i ≡ n % s.agreed.sets →
+    Occupant s k n (then_some (not (eqb (get_or (get_or s.table k []) i blank).tag n) && valid (get_or (get_or s.table k []) i blank).state) (get_or (get_or s.table k []) i blank).tag)
+occupant-told s k on n i here =
     let p = get_or (get_or s.table k []) i blank in
-    sym (ap lines_of (single-at s k on i l) ∙ cond-false (valid p.state) (p.tag ∷ []) [] e)
+    let a = eqb p.tag n in
+    let v = valid p.state in
+    record {
+      answer = chosen (not a && v) p.tag
+          ∙ ap (λ (b : Bool). cond b None (Some p.tag)) (sym (room-ways s k on n i here ∙ room-one a v))
+          ∙ ap (λ (m : ℕ). cond (room (get_or (caches_of s) k []) n) None (Some m)) (sym (victim-tag s k on n i here));
+      stands = if_goes _ (not a && v) p.tag (λ e. let h = (and_parts (not a) v e).1 in (s.homed k i h ∙ here, occupant-held s k on i h));
+    }
+  where
+    chosen : (b : Bool) (m : ℕ) → then_some b m ≡ cond (not b) None (Some m)
+    chosen true m = refl
+    chosen false m = refl
+
+    if_goes : (P : ℕ → Type 0) (b : Bool) (m : ℕ) → (b ≡ true → P m) → IfSome (then_some b m) P
+    if_goes P true m h = h refl
+    if_goes P false m h = tt
+
+-- the lines that stand in a set
+pub lines-told : (s : Caches) (k : ℕ) → k < s.agreed.seats → (i : ℕ) → i < s.agreed.sets →
+    option_to_list (then_some (valid (get_or (get_or s.table k []) i blank).state) (get_or (get_or s.table k []) i blank).tag) ≡ lines_at (get_or (caches_of s) k []) i
+unfolding lines_at
+lines-told s k on i l =
+    let p = get_or (get_or s.table k []) i blank in
+    listed (valid p.state) p.tag ∙ sym (ap lines_of (single-at s k on i l))
+  where
+    listed : (b : Bool) (n : ℕ) → option_to_list (then_some b n) ≡ cond b (n ∷ []) []
+    listed true n = refl
+    listed false n = refl

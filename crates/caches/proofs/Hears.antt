@@ -1,7 +1,7 @@
 -- The seats react in turn, and all together as the rules have it.
 --
 -- Going   the first k seats have reacted: what the caches are, and what of the answer is left to come
-use Rattle.std.proofs.Common.{◌≡◌, ℕ, suc, ◌+◌, ◌<◌, ◌≤◌, true, false, eqb, ◌≢◌, List, [], ◌∷◌, ◌++◌, length, get_or, take, drop, set, sym, refl, ap, ◌∙◌, subst, ⊎_elim, zero-add, add-one, arith}
+use Rattle.std.proofs.Common.{None, Option, Bool, ◌≡◌, ℕ, suc, ◌+◌, ◌<◌, ◌≤◌, true, false, eqb, ◌≢◌, List, [], ◌∷◌, ◌++◌, length, get_or, take, drop, set, sym, refl, ap, ◌∙◌, subst, ⊎_elim, zero-add, add-one, arith}
 use Rattle.std.proofs.lemmas.Bool.{cases_eq, cases_Bool, both_ways, false≢true, and_parts}
 use Rattle.std.proofs.lemmas.List.{get_or_at, set_at, append_assoc, append-nil, take_more, drop_more, take_all, drop_all, length-take-le, length-set, length-map, get_or-set_same, get_or-set_other, set-get_or, ext_get_or}
 use Rattle.protocol.specs.declared.state.State.{State}
@@ -17,6 +17,7 @@ use Rattle.rules.proofs.Machines.{column-at, put_each-at, length-put_each}
 use Rattle.caches.specs.declared.heard.Heard.{Heard}
 use Rattle.caches.specs.declared.heard.Heard.TheVariants.{ReadShared, ReadInvalidate, Invalidate, Update, ThroughUpdate, ThroughInvalidate}
 use Rattle.caches.specs.declared.heeded.Heeded.{Heeded}
+use Rattle.caches.specs.declared.heeded.Owner.{Owner}
 use Rattle.caches.specs.declared.line.CacheLine.{CacheLine}
 use Rattle.caches.specs.declared.table.Caches.{Caches}
 use Rattle.caches.specs.Hearing.{state_heard, words_heard, reaction, heard_by}
@@ -58,16 +59,16 @@ invalid-stays : (h : Heard) (c : ℕ → ℕ) → state_heard h c Invalid ≡ In
 invalid-stays ReadShared c = refl
 invalid-stays ReadInvalidate c = refl
 invalid-stays Invalidate c = refl
-invalid-stays (Update o v) c = refl
-invalid-stays (ThroughUpdate o v) c = refl
+invalid-stays (Update st) c = refl
+invalid-stays (ThroughUpdate st) c = refl
 invalid-stays ThroughInvalidate c = refl
 
 pub none-reacts : (c : ℕ → ℕ) (h : Heard) → reaction c h none ≡ none
 none-reacts c ReadShared = refl
 none-reacts c ReadInvalidate = refl
 none-reacts c Invalidate = refl
-none-reacts c (Update o v) = refl
-none-reacts c (ThroughUpdate o v) = refl
+none-reacts c (Update st) = refl
+none-reacts c (ThroughUpdate st) = refl
 none-reacts c ThroughInvalidate = refl
 
 -- a copy left valid was valid
@@ -77,6 +78,13 @@ left-valid h c Shared e = refl
 left-valid h c Exclusive e = refl
 left-valid h c Owned e = refl
 left-valid h c Modified e = refl
+
+-- the default is the answer before any seat has reacted
+pub unheeded-is : (a : Heeded) → (a.owner ≡ None) × ((a.shared ≡ false) × (a.lost ≡ 0)) → a ≡ unheeded
+unheeded-is a d =
+    ap (λ (o : Option Owner). record { owner = o; shared = a.shared; lost = a.lost }) d.0
+    ∙ ap (λ (b : Bool). record { owner = None; shared = b; lost = a.lost }) d.1.0
+    ∙ ap (λ (m : ℕ). record { owner = None; shared = false; lost = m }) d.1.1
 
 module _ (cell : ℕ → ℕ → ℕ) (h : Heard) (r n : ℕ) (s : Caches) where
   -- the caches and the line's copies before, and after all seats but r have reacted
@@ -128,16 +136,16 @@ module _ (cell : ℕ → ℕ → ℕ) (h : Heard) (r n : ℕ) (s : Caches) where
   then-own l = sym (then_at r ∙ ap (put n (get_or was r [])) (heard-own l) ∙ put-look (get_or was r []) n)
 
   -- the copies that are found then
-  pub found-then : r < s.seats → copies_of n then ≡ after
+  pub found-then : r < s.agreed.seats → copies_of n then ≡ after
   found-then on =
-      let seats : length was ≡ s.seats = caches-long s in
+      let seats : length was ≡ s.agreed.seats = caches-long s in
       let b = long-before in
       let a = long_after in
       let t = long-then in
       let m : length (copies_of n then) ≡ length then = length-map then (λ (c : Cache). look c n) in
       ext_get_or none (copies_of n then) after (omega arith)
       (λ k l.
-      let lk : k < s.seats = omega arith in
+      let lk : k < s.agreed.seats = omega arith in
       let lr : r < length was = omega arith in
       column-at n then k ∙ ap (λ (c : Cache). look c n) (then_at k)
       ∙ ⊎_elim
@@ -153,16 +161,14 @@ module _ (cell : ℕ → ℕ → ℕ) (h : Heard) (r n : ℕ) (s : Caches) where
 
   -- the first k seats have reacted
   pub record Going (t : Caches) (k : ℕ) (a : Heeded) : Type 0 where
-    pub seats : t.seats ≡ s.seats
-    pub sets : t.sets ≡ s.sets
+    pub agreed : t.agreed ≡ s.agreed
     pub caches : caches_of t ≡ take k then ++ drop k was
     pub answer : sweep 0 unheeded (set before r none) (set after r none) ≡ sweep k a (drop k (set before r none)) (drop k (set after r none))
     pub few : a.lost ≤ k
 
   pub none_yet : (a : Heeded) → a ≡ unheeded → Going s 0 a
   none_yet a e = record {
-    seats = refl;
-    sets = refl;
+    agreed = refl;
     caches = refl;
     answer = ap (λ (b : Heeded). sweep 0 b (set before r none) (set after r none)) (sym e);
     few = subst (λ (b : Heeded). b.lost ≤ 0) (sym e) (omega arith);
@@ -183,12 +189,12 @@ module _ (cell : ℕ → ℕ → ℕ) (h : Heard) (r n : ℕ) (s : Caches) where
       ∙ ap (λ (c : Heeded). sweep (suc k) c (drop (k + 1) us) (drop (k + 1) vs)) (sym e)
       ∙ ap (λ (j : ℕ). sweep j b (drop (k + 1) us) (drop (k + 1) vs)) (sym (add-one k))
 
-  pub one_more_lem : (t u : Caches) (k : ℕ) (a b : Heeded) → Going t k a → k < s.seats → k ≢ r →
+  pub one_more_lem : (t u : Caches) (k : ℕ) (a b : Heeded) → Going t k a → k < s.agreed.seats → k ≢ r →
       caches_of u ≡ set (caches_of t) k (put n (get_or (caches_of t) k []) (reaction (cell k) h (look (get_or (caches_of t) k []) n))) →
       b ≡ noted k (look (get_or (caches_of t) k []) n) (reaction (cell k) h (look (get_or (caches_of t) k []) n)).state a →
-      u.seats ≡ t.seats → u.sets ≡ t.sets → Going u (k + 1) b
-  one_more_lem t u k a b go l ne put_is note-is seats-is sets-is =
-      let size : length was ≡ s.seats = caches-long s in
+      u.agreed ≡ t.agreed → Going u (k + 1) b
+  one_more_lem t u k a b go l ne put_is note-is agreed-is =
+      let size : length was ≡ s.agreed.seats = caches-long s in
       let lk : k < length was = omega arith in
       let long = long-then in
       let same : get_or (caches_of t) k [] ≡ get_or was k [] = ap (λ (cs : List Cache). get_or cs k []) go.caches ∙ front_read then was long k lk [] in
@@ -199,8 +205,7 @@ module _ (cell : ℕ → ℕ → ℕ) (h : Heard) (r n : ℕ) (s : Caches) where
       let ours : x ≡ get_or (set before r none) k none = sym (get_or-set_other before r k none none ne ∙ column-at n was k) in
       let theirs : reaction (cell k) h x ≡ get_or (set after r none) k none = sym (get_or-set_other after r k none none ne ∙ heard-at k ne) in
       record {
-        seats = seats-is ∙ go.seats;
-        sets = sets-is ∙ go.sets;
+        agreed = agreed-is ∙ go.agreed;
         caches = put_is
             ∙ ap (λ (c : Cache). set (caches_of t) k (put n c (reaction (cell k) h (look c n)))) same
             ∙ ap (λ (cs : List Cache). set cs k (put n (get_or was k []) (reaction (cell k) h x))) go.caches
@@ -213,14 +218,13 @@ module _ (cell : ℕ → ℕ → ℕ) (h : Heard) (r n : ℕ) (s : Caches) where
       }
 
   -- the requester itself does not react
-  pub itself : (t : Caches) (k : ℕ) (a : Heeded) → Going t k a → k < s.seats → k ≡ r → Going t (k + 1) a
+  pub itself : (t : Caches) (k : ℕ) (a : Heeded) → Going t k a → k < s.agreed.seats → k ≡ r → Going t (k + 1) a
   itself t k a go l same =
-      let size : length was ≡ s.seats = caches-long s in
+      let size : length was ≡ s.agreed.seats = caches-long s in
       let lk : k < length was = omega arith in
       let f : a.lost ≤ k = go.few in
       record {
-        seats = go.seats;
-        sets = go.sets;
+        agreed = go.agreed;
         caches = go.caches
             ∙ front-stay then was long-then k lk []
             (subst (λ (j : ℕ). get_or was j [] ≡ get_or then j []) (sym same) (then-own (subst (λ (j : ℕ). j < length was) same lk)));
@@ -234,15 +238,15 @@ module _ (cell : ℕ → ℕ → ℕ) (h : Heard) (r n : ℕ) (s : Caches) where
       }
 
   -- all seats have reacted
-  pub all-reacted : (t : Caches) (k : ℕ) (a : Heeded) → Going t k a → s.seats ≤ k → caches_of t ≡ then
+  pub all-reacted : (t : Caches) (k : ℕ) (a : Heeded) → Going t k a → s.agreed.seats ≤ k → caches_of t ≡ then
   all-reacted t k a go l =
-      let size : length was ≡ s.seats = caches-long s in
+      let size : length was ≡ s.agreed.seats = caches-long s in
       let long = long-then in
       go.caches ∙ front-all then was k (omega arith) (omega arith)
 
-  pub all_told : (t : Caches) (k : ℕ) (a : Heeded) → Going t k a → s.seats ≤ k → a ≡ sweep 0 unheeded (set before r none) (set after r none)
+  pub all_told : (t : Caches) (k : ℕ) (a : Heeded) → Going t k a → s.agreed.seats ≤ k → a ≡ sweep 0 unheeded (set before r none) (set after r none)
   all_told t k a go l =
-      let size : length was ≡ s.seats = caches-long s in
+      let size : length was ≡ s.agreed.seats = caches-long s in
       let m = length-set before r none in
       let p = long-before in
       sym (go.answer ∙ ap (λ (zs : List Copy). sweep k a zs (drop k (set after r none))) (drop_all k (set before r none) (omega arith)))
@@ -251,26 +255,25 @@ stands-valid : (n : ℕ) (p : CacheLine) → stands_in n p ≡ true → valid p.
 stands-valid n p e = (and_parts (eqb p.tag n) (valid p.state) e).1
 
 -- a seat that has no copy: nothing changes
-pub record Still (s : Caches) (k n : ℕ) (c : ℕ → ℕ) (h : Heard) (a : Heeded) : Type 0 where
-  pub caches : caches_of s ≡ set (caches_of s) k (put n (get_or (caches_of s) k []) (reaction c h (look (get_or (caches_of s) k []) n)))
-  pub noted : a ≡ noted k (look (get_or (caches_of s) k []) n) (reaction c h (look (get_or (caches_of s) k []) n)).state a
-
-pub still : (s : Caches) (k n : ℕ) (c : ℕ → ℕ) (h : Heard) (a : Heeded) → k < s.seats → valid (look (get_or (caches_of s) k []) n).state ≡ false → Still s k n c h a
-still s k n c h a on v =
-    let d = get_or (caches_of s) k [] in
-    let absent : look d n ≡ none =
+pub no_copy : (s : Caches) (k n : ℕ) → k < s.agreed.seats → valid (look (get_or (caches_of s) k []) n).state ≡ false → look (get_or (caches_of s) k []) n ≡ none
+no_copy s k n on v =
     ⊎_elim
     (λ (e : stands_in n (place_in s k n) ≡ true).
-    absurd (both_ways (valid (look d n).state) v (ap (λ (x : Copy). valid x.state) (look-stands s k on n e) ∙ stands-valid n (place_in s k n) e)))
+    absurd (both_ways (valid (look (get_or (caches_of s) k []) n).state) v (ap (λ (x : Copy). valid x.state) (look-stands s k on n e) ∙ stands-valid n (place_in s k n) e)))
     (λ (e : stands_in n (place_in s k n) ≡ false). look-absent s k on n e)
     (cases_Bool (stands_in n (place_in s k n)))
-    in
-    let quiet : reaction c h (look d n) ≡ none = ap (reaction c h) absent ∙ none-reacts c h in
-    record {
-      caches = sym
-          (ap (λ (x : Copy). set (caches_of s) k (put n d x)) (quiet ∙ sym absent)
-          ∙ ap (set (caches_of s) k) (put-look d n) ∙ set-get_or (caches_of s) k []);
-      noted = sym
-          (ap (λ (x : Copy). noted k (look d n) x.state a) quiet
-          ∙ ap (λ (x : Copy). noted k x Invalid a) absent ∙ noted-none k a);
-    }
+
+module _ (c : ℕ → ℕ) (h : Heard) where
+  pub still : (s : Caches) (k n : ℕ) → look (get_or (caches_of s) k []) n ≡ none →
+      caches_of s ≡ set (caches_of s) k (put n (get_or (caches_of s) k []) (reaction c h (look (get_or (caches_of s) k []) n)))
+  still s k n absent =
+      let d = get_or (caches_of s) k [] in
+      sym
+      (ap (λ (x : Copy). set (caches_of s) k (put n d x)) (ap (reaction c h) absent ∙ none-reacts c h ∙ sym absent)
+      ∙ ap (set (caches_of s) k) (put-look d n) ∙ set-get_or (caches_of s) k [])
+
+  pub not-noted : (k : ℕ) (x : Copy) (a : Heeded) → x ≡ none → a ≡ noted k x (reaction c h x).state a
+  not-noted k x a absent =
+      sym
+      (ap (λ (y : Copy). noted k y (reaction c h y).state a) absent
+      ∙ ap (λ (y : Copy). noted k none y.state a) (none-reacts c h) ∙ noted-none k a)

@@ -34,16 +34,16 @@ pub record Bounds (sets : ℕ) (table : List (List CacheLine)) : Type 0 where
   pub wide : Wide table
   pub homed : Homed sets table
 
-pub bounds : (s : Caches) (k : ℕ) → k < s.seats → (i : ℕ) → i < s.sets → (q : CacheLine) → (valid q.state ≡ true → q.tag % s.sets ≡ i) → Bounds s.sets (with_place s k i q)
+pub bounds : (s : Caches) (k : ℕ) → k < s.agreed.seats → (i : ℕ) → i < s.agreed.sets → (q : CacheLine) → (valid q.state ≡ true → q.tag % s.agreed.sets ≡ i) → Bounds s.agreed.sets (with_place s k i q)
 bounds s k on i l q home =
-    let f : s.seats ≤ 8 = s.few in
+    let f : s.agreed.seats ≤ 8 = s.agreed.few in
     let r : length s.table ≡ 8 = s.rows in
-    let n : s.sets ≤ 64 = s.narrow in
+    let n : s.agreed.sets ≤ 64 = s.agreed.few_sets in
     let w : length (get_or s.table k []) ≡ 64 = s.wide k (omega arith) in
     record {
       rows = rows-set s.table k i q s.rows;
       wide = wide-set s.table k i q s.rows s.wide;
-      homed = homed-set s.table k i q s.sets (omega arith) (omega arith) home s.homed;
+      homed = homed-set s.table k i q s.agreed.sets (omega arith) (omega arith) home s.homed;
     }
 
 -- one seat's copy of a line is this one now: the caches, and the copies of the line
@@ -51,23 +51,23 @@ pub record Put (s : Caches) (k n : ℕ) (x : Copy) (cs : List Cache) : Type 0 wh
   pub caches : cs ≡ put_each n (caches_of s) (set (copies_of n (caches_of s)) k x)
   pub copies : copies_of n cs ≡ set (copies_of n (caches_of s)) k x
 
-module _ (s : Caches) (k : ℕ) (on : k < s.seats) (n i : ℕ) (here : i ≡ n % s.sets) where
-  here_lt : i < s.sets
-  here_lt = subst (λ (m : ℕ). m < s.sets) (sym here) (place-lt s n)
+module _ (s : Caches) (k : ℕ) (on : k < s.agreed.seats) (n i : ℕ) (here : i ≡ n % s.agreed.sets) where
+  here_lt : i < s.agreed.sets
+  here_lt = subst (λ (m : ℕ). m < s.agreed.sets) (sym here) (place-lt s n)
 
   -- a place of the line's own is in its set
-  pub own_home : (q : CacheLine) → q.tag ≡ n → q.tag % s.sets ≡ i
-  own_home q e = ap (λ (m : ℕ). m % s.sets) e ∙ sym here
+  pub own_home : (q : CacheLine) → q.tag ≡ n → q.tag % s.agreed.sets ≡ i
+  own_home q e = ap (λ (m : ℕ). m % s.agreed.sets) e ∙ sym here
 
   putting : (q : CacheLine) (t : State) (w : List ℕ) → slot_of q ∷ [] ≡ put_in n (kept t w) (slot_of (get_or (get_or s.table k []) i blank) ∷ []) →
-      (valid t ≡ true → room (get_or (caches_of s) k []) n ≡ true) → Put s k n (kept t w) (table_view s.seats s.sets (with_place s k i q))
+      (valid t ≡ true → room (get_or (caches_of s) k []) n ≡ true) → Put s k n (kept t w) (table_view s.agreed.seats s.agreed.sets (with_place s k i q))
   putting q t w e fit =
       let p = put-caches s k on n i here q (kept t w) e in
       record { caches = p; copies = ap (copies_of n) p ∙ put-copies s k on n t w fit }
 
   -- a line is placed where there is room
   pub placed : (t : State) (w : List ℕ) → valid t ≡ true → room (get_or (caches_of s) k []) n ≡ true →
-      Put s k n (kept t w) (table_view s.seats s.sets (with_place s k i (record { state = t; tag = n; words = w })))
+      Put s k n (kept t w) (table_view s.agreed.seats s.agreed.sets (with_place s k i (record { state = t; tag = n; words = w })))
   placed t w v free =
       putting (record { state = t; tag = n; words = w }) t w
       (sym (put-room n (get_or (get_or s.table k []) i blank) (kept t w) (sym (room-ways s k on n i here) ∙ free) v))
@@ -84,7 +84,7 @@ module _ (s : Caches) (k : ℕ) (on : k < s.seats) (n i : ℕ) (here : i ≡ n %
   -- a held copy takes a state and a word
   pub rewritten : (q : CacheLine) (t : State) (o v : ℕ) → valid (state_at (copies_of n (caches_of s)) k) ≡ true →
       q.tag ≡ (get_or (get_or s.table k []) i blank).tag → q.state ≡ t → q.words ≡ set (get_or (get_or s.table k []) i blank).words o v →
-      Put s k n (kept t (set (words_at (copies_of n (caches_of s)) k) o v)) (table_view s.seats s.sets (with_place s k i q))
+      Put s k n (kept t (set (words_at (copies_of n (caches_of s)) k) o v)) (table_view s.agreed.seats s.agreed.sets (with_place s k i q))
   rewritten q t o v held tag state words =
       let w = set (words_at (copies_of n (caches_of s)) k) o v in
       putting q t w
@@ -96,7 +96,7 @@ module _ (s : Caches) (k : ℕ) (on : k < s.seats) (n i : ℕ) (here : i ≡ n %
 
   -- the place's copy goes
   pub let_go : (get_or (get_or s.table k []) i blank).tag ≡ n →
-      Put s k n none (table_view s.seats s.sets (with_place s k i (record { state = Invalid; tag = (get_or (get_or s.table k []) i blank).tag; words = (get_or (get_or s.table k []) i blank).words })))
+      Put s k n none (table_view s.agreed.seats s.agreed.sets (with_place s k i (record { state = Invalid; tag = (get_or (get_or s.table k []) i blank).tag; words = (get_or (get_or s.table k []) i blank).words })))
   let_go tag =
       let p = get_or (get_or s.table k []) i blank in
       let q : CacheLine = record { state = Invalid; tag = p.tag; words = p.words } in
@@ -129,12 +129,12 @@ module _ (s : Caches) (k : ℕ) (on : k < s.seats) (n i : ℕ) (here : i ≡ n %
 
   -- where a copy went there is room for any line of its set
   freed : (cs : List Cache) → cs ≡ set (caches_of s) k (put n (get_or (caches_of s) k []) none) → valid (state_at (copies_of n (caches_of s)) k) ≡ true →
-      (m : ℕ) → m % s.sets ≡ n % s.sets → room (get_or cs k []) m ≡ true
+      (m : ℕ) → m % s.agreed.sets ≡ n % s.agreed.sets → room (get_or cs k []) m ≡ true
   unfolding room put
   freed cs e held m same =
       let c = get_or (caches_of s) k [] in
-      let long : length c ≡ s.sets = cache-sets s k on in
-      let seats : length (caches_of s) ≡ s.seats = caches-long s in
+      let long : length c ≡ s.agreed.sets = cache-sets s k on in
+      let seats : length (caches_of s) ≡ s.agreed.seats = caches-long s in
       let p = get_or (get_or s.table k []) i blank in
       let w = put_in n none (set_of c n) in
       let below : n % length c < length c = subst (λ (j : ℕ). n % j < j) (sym long) (place-lt s n) in
@@ -150,13 +150,13 @@ module _ (s : Caches) (k : ℕ) (on : k < s.seats) (n i : ℕ) (here : i ≡ n %
       ∙ or_right (has m (slot n none ∷ [])) true refl
 
   pub room-freed : (cs : List Cache) → Put s k n none cs → valid (state_at (copies_of n (caches_of s)) k) ≡ true →
-      (m : ℕ) → m % s.sets ≡ n % s.sets → room (get_or cs k []) m ≡ true
+      (m : ℕ) → m % s.agreed.sets ≡ n % s.agreed.sets → room (get_or cs k []) m ≡ true
   room-freed cs p = freed cs (p.caches ∙ put_each-one n k (caches_of s) none)
 
   -- a held copy has reacted
   pub heeding : (q : CacheLine) (c : ℕ → ℕ) (h : Heard) → stands_in n (get_or (get_or s.table k []) i blank) ≡ true →
       q.tag ≡ (get_or (get_or s.table k []) i blank).tag → copy_of q ≡ reaction c h (copy_of (get_or (get_or s.table k []) i blank)) →
-      table_view s.seats s.sets (with_place s k i q) ≡ set (caches_of s) k (put n (get_or (caches_of s) k []) (reaction c h (look (get_or (caches_of s) k []) n)))
+      table_view s.agreed.seats s.agreed.sets (with_place s k i q) ≡ set (caches_of s) k (put n (get_or (caches_of s) k []) (reaction c h (look (get_or (caches_of s) k []) n)))
   heeding q c h stands tag e =
       let p = get_or (get_or s.table k []) i blank in
       let x = reaction c h (look (get_or (caches_of s) k []) n) in

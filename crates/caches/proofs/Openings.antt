@@ -1,5 +1,6 @@
 -- The table at opening: every place is empty.
-use Rattle.std.proofs.Common.{◌≡◌, ℕ, zero, suc, ◌<◌, ◌≤◌, List, [], ◌∷◌, map, length, get_or, replicate, sym, refl, ap, ◌∙◌, ⊎_elim}
+use Rattle.std.proofs.Common.{◌≡◌, ℕ, ◌<◌, ◌≤◌, List, [], ◌∷◌, map, length, get_or, replicate, sym, ap, ◌∙◌, ⊎_elim}
+use lib.LanesLaws.{map-replicate}
 use Rattle.std.proofs.lemmas.Bool.{cases_lt, false≢true}
 use Rattle.std.proofs.lemmas.List.{take-replicate, get_or-replicate, get_or_past}
 use Rattle.protocol.specs.declared.state.State.TheVariants.{Invalid}
@@ -16,10 +17,6 @@ empty = record { state = Invalid; tag = 0; words = 0 ∷ 0 ∷ 0 ∷ 0 ∷ [] }
 -- the table of empty places
 abbrev pub empty_table : List (List CacheLine)
 empty_table = replicate 8 (replicate 64 empty)
-
-map-replicate : {X Y : Type 0} (f : X → Y) (n : ℕ) (x : X) → map f (replicate n x) ≡ replicate n (f x)
-map-replicate f zero x = refl
-map-replicate f (suc n) x = ap (λ ys. f x ∷ ys) (map-replicate f n x)
 
 pub open_view : (seats sets : ℕ) → seats ≤ 8 → sets ≤ 64 → table_view seats sets empty_table ≡ replicate seats (fresh sets 1)
 open_view seats sets few narrow =

@@ -91,53 +91,53 @@ table-set seats sets table k row = ap (map (row_view sets)) (take-set_in seats t
 
 -- the place of line n in seat k's row
 abbrev pub place_in : Caches → (k n : ℕ) → CacheLine
-place_in s k n = get_or (get_or s.table k []) (n % s.sets) blank
+place_in s k n = get_or (get_or s.table k []) (n % s.agreed.sets) blank
 
 module _ (s : Caches) where
-  viewed : table_view s.seats s.sets s.table ≡ caches_of s
+  viewed : table_view s.agreed.seats s.agreed.sets s.table ≡ caches_of s
   unfolding caches_of
   viewed = refl
 
-  pub caches-long : length (caches_of s) ≡ s.seats
+  pub caches-long : length (caches_of s) ≡ s.agreed.seats
   unfolding caches_of
   caches-long =
-      let f : s.seats ≤ 8 = s.few in
+      let f : s.agreed.seats ≤ 8 = s.agreed.few in
       let r : length s.table ≡ 8 = s.rows in
-      length-map (take s.seats s.table) (row_view s.sets) ∙ length-take-le s.seats s.table (omega arith)
+      length-map (take s.agreed.seats s.table) (row_view s.agreed.sets) ∙ length-take-le s.agreed.seats s.table (omega arith)
 
-  pub place-lt : (n : ℕ) → n % s.sets < s.sets
-  place-lt n = let h : 0 < s.sets = s.some in mod-lt n h
+  pub place-lt : (n : ℕ) → n % s.agreed.sets < s.agreed.sets
+  place-lt n = let h : 0 < s.agreed.sets = s.agreed.some_sets in mod-lt n h
 
-  module _ (k : ℕ) (on : k < s.seats) where
+  module _ (k : ℕ) (on : k < s.agreed.seats) where
     row-long : length (get_or s.table k []) ≡ 64
-    row-long = let f : s.seats ≤ 8 = s.few in s.wide k (omega arith)
+    row-long = let f : s.agreed.seats ≤ 8 = s.agreed.few in s.wide k (omega arith)
 
-    row-wide : s.sets ≤ length (get_or s.table k [])
-    row-wide = let e = row-long in let n : s.sets ≤ 64 = s.narrow in omega arith
+    row-wide : s.agreed.sets ≤ length (get_or s.table k [])
+    row-wide = let e = row-long in let n : s.agreed.sets ≤ 64 = s.agreed.few_sets in omega arith
 
-    seat-on : k < length (take s.seats s.table)
+    seat-on : k < length (take s.agreed.seats s.table)
     seat-on =
-        let f : s.seats ≤ 8 = s.few in
+        let f : s.agreed.seats ≤ 8 = s.agreed.few in
         let r : length s.table ≡ 8 = s.rows in
-        let e = length-take-le s.seats s.table (omega arith) in
+        let e = length-take-le s.agreed.seats s.table (omega arith) in
         omega arith
 
-    cache-at : get_or (caches_of s) k [] ≡ row_view s.sets (get_or s.table k [])
+    cache-at : get_or (caches_of s) k [] ≡ row_view s.agreed.sets (get_or s.table k [])
     unfolding caches_of
     cache-at =
-        get_or-map (row_view s.sets) (take s.seats s.table) k [] [] seat-on
-        ∙ ap (row_view s.sets) (get_or-take s.seats s.table k [] on)
+        get_or-map (row_view s.agreed.sets) (take s.agreed.seats s.table) k [] [] seat-on
+        ∙ ap (row_view s.agreed.sets) (get_or-take s.agreed.seats s.table k [] on)
 
-    pub cache-sets : length (get_or (caches_of s) k []) ≡ s.sets
-    cache-sets = ap length cache-at ∙ row-length s.sets (get_or s.table k []) row-wide
+    pub cache-sets : length (get_or (caches_of s) k []) ≡ s.agreed.sets
+    cache-sets = ap length cache-at ∙ row-length s.agreed.sets (get_or s.table k []) row-wide
 
     -- a set has one way
-    pub single-at : (i : ℕ) → i < s.sets → get_or (get_or (caches_of s) k []) i [] ≡ slot_of (get_or (get_or s.table k []) i blank) ∷ []
-    single-at i l = ap (λ (c : Cache). get_or c i []) cache-at ∙ row_at s.sets (get_or s.table k []) i l row-wide
+    pub single-at : (i : ℕ) → i < s.agreed.sets → get_or (get_or (caches_of s) k []) i [] ≡ slot_of (get_or (get_or s.table k []) i blank) ∷ []
+    single-at i l = ap (λ (c : Cache). get_or c i []) cache-at ∙ row_at s.agreed.sets (get_or s.table k []) i l row-wide
 
     pub single : (n : ℕ) → set_of (get_or (caches_of s) k []) n ≡ slot_of (place_in s k n) ∷ []
     single n =
-        ap (λ (m : ℕ). get_or (get_or (caches_of s) k []) (n % m) []) cache-sets ∙ single-at (n % s.sets) (place-lt n)
+        ap (λ (m : ℕ). get_or (get_or (caches_of s) k []) (n % m) []) cache-sets ∙ single-at (n % s.agreed.sets) (place-lt n)
 
     -- the copy of a line
     pub look-place : (n : ℕ) → look (get_or (caches_of s) k []) n ≡ cond (stands_in n (place_in s k n)) (copy_of (place_in s k n)) none
@@ -151,29 +151,29 @@ module _ (s : Caches) where
     look-absent n e = look-place n ∙ cond-false (stands_in n (place_in s k n)) (copy_of (place_in s k n)) none e
 
     put_is : (n : ℕ) (q : CacheLine) (x : Copy) → slot_of q ∷ [] ≡ put_in n x (slot_of (place_in s k n) ∷ []) →
-        put n (get_or (caches_of s) k []) x ≡ set (get_or (caches_of s) k []) (n % s.sets) (slot_of q ∷ [])
+        put n (get_or (caches_of s) k []) x ≡ set (get_or (caches_of s) k []) (n % s.agreed.sets) (slot_of q ∷ [])
     unfolding put
     put_is n q x e =
         ap (λ (m : ℕ). set (get_or (caches_of s) k []) (n % m) (put_in n x (set_of (get_or (caches_of s) k []) n))) cache-sets
-        ∙ ap (λ (ss : List Slot). set (get_or (caches_of s) k []) (n % s.sets) (put_in n x ss)) (single n)
-        ∙ ap (λ (ss : List Slot). set (get_or (caches_of s) k []) (n % s.sets) ss) (sym e)
+        ∙ ap (λ (ss : List Slot). set (get_or (caches_of s) k []) (n % s.agreed.sets) (put_in n x ss)) (single n)
+        ∙ ap (λ (ss : List Slot). set (get_or (caches_of s) k []) (n % s.agreed.sets) ss) (sym e)
 
     -- a place changes, and one copy with it
     changed₀ : (n : ℕ) (q : CacheLine) (x : Copy) → slot_of q ∷ [] ≡ put_in n x (slot_of (place_in s k n) ∷ []) →
-        table_view s.seats s.sets (set s.table k (set (get_or s.table k []) (n % s.sets) q)) ≡ set (caches_of s) k (put n (get_or (caches_of s) k []) x)
+        table_view s.agreed.seats s.agreed.sets (set s.table k (set (get_or s.table k []) (n % s.agreed.sets) q)) ≡ set (caches_of s) k (put n (get_or (caches_of s) k []) x)
     changed₀ n q x e =
-        table-set s.seats s.sets s.table k (set (get_or s.table k []) (n % s.sets) q)
-        ∙ ap (λ (cs : List Cache). set cs k (row_view s.sets (set (get_or s.table k []) (n % s.sets) q))) viewed
+        table-set s.agreed.seats s.agreed.sets s.table k (set (get_or s.table k []) (n % s.agreed.sets) q)
+        ∙ ap (λ (cs : List Cache). set cs k (row_view s.agreed.sets (set (get_or s.table k []) (n % s.agreed.sets) q))) viewed
         ∙ ap (set (caches_of s) k)
-        (row-set s.sets (get_or s.table k []) (n % s.sets) q
-        ∙ ap (λ (c : Cache). set c (n % s.sets) (slot_of q ∷ [])) (sym cache-at)
+        (row-set s.agreed.sets (get_or s.table k []) (n % s.agreed.sets) q
+        ∙ ap (λ (c : Cache). set c (n % s.agreed.sets) (slot_of q ∷ [])) (sym cache-at)
         ∙ sym (put_is n q x e))
 
-    pub changed : (n i : ℕ) → i ≡ n % s.sets → (q : CacheLine) (x : Copy) → slot_of q ∷ [] ≡ put_in n x (slot_of (get_or (get_or s.table k []) i blank) ∷ []) →
-        table_view s.seats s.sets (set s.table k (set (get_or s.table k []) i q)) ≡ set (caches_of s) k (put n (get_or (caches_of s) k []) x)
+    pub changed : (n i : ℕ) → i ≡ n % s.agreed.sets → (q : CacheLine) (x : Copy) → slot_of q ∷ [] ≡ put_in n x (slot_of (get_or (get_or s.table k []) i blank) ∷ []) →
+        table_view s.agreed.seats s.agreed.sets (set s.table k (set (get_or s.table k []) i q)) ≡ set (caches_of s) k (put n (get_or (caches_of s) k []) x)
     changed n i e q x h =
         subst
-        (λ (j : ℕ). table_view s.seats s.sets (set s.table k (set (get_or s.table k []) j q)) ≡ set (caches_of s) k (put n (get_or (caches_of s) k []) x))
+        (λ (j : ℕ). table_view s.agreed.seats s.agreed.sets (set s.table k (set (get_or s.table k []) j q)) ≡ set (caches_of s) k (put n (get_or (caches_of s) k []) x))
         (sym e) (changed₀ n q x (h ∙ ap (λ (j : ℕ). put_in n x (slot_of (get_or (get_or s.table k []) j blank) ∷ [])) e))
 
     -- what is put is found again
@@ -194,8 +194,8 @@ module _ (s : Caches) where
         ∙ tidy-kept t w
 
     -- one seat's copy is put: the caches then, and the copies of the line
-    pub put-caches : (n i : ℕ) → i ≡ n % s.sets → (q : CacheLine) (x : Copy) → slot_of q ∷ [] ≡ put_in n x (slot_of (get_or (get_or s.table k []) i blank) ∷ []) →
-        table_view s.seats s.sets (set s.table k (set (get_or s.table k []) i q)) ≡ put_each n (caches_of s) (set (copies_of n (caches_of s)) k x)
+    pub put-caches : (n i : ℕ) → i ≡ n % s.agreed.sets → (q : CacheLine) (x : Copy) → slot_of q ∷ [] ≡ put_in n x (slot_of (get_or (get_or s.table k []) i blank) ∷ []) →
+        table_view s.agreed.seats s.agreed.sets (set s.table k (set (get_or s.table k []) i q)) ≡ put_each n (caches_of s) (set (copies_of n (caches_of s)) k x)
     put-caches n i e q x h = changed n i e q x h ∙ sym (put_each-one n k (caches_of s) x)
 
     pub put-copies : (n : ℕ) (t : State) (w : List ℕ) → (valid t ≡ true → room (get_or (caches_of s) k []) n ≡ true) →

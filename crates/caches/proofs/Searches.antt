@@ -1,10 +1,15 @@
--- A search over the seats, from seat k on: the first owner, and whether some seat holds the line.
-use Rattle.std.proofs.Common.{◌≡◌, ℕ, suc, ◌+◌, ◌<◌, ◌≤◌, Bool, true, false, not, ◌||◌, ◌≢◌, List, ◌∷◌, length, get_or, drop, set, Some, None, sym, ap, ◌∙◌, add-one, arith}
-use Rattle.std.proofs.lemmas.Bool.{cond-true, cond-false, or_left}
-use Rattle.std.proofs.lemmas.List.{drop_more, drop_all, length-set, length-map, get_or-set_other}
+-- A search over the seats: the first owner, and whether some seat holds the line.
+--
+-- Tests   a test of the seats from k on agrees with an attribute of the copies
+-- test    a seat's copy has the attribute, and the seat is not the requester
+use Rattle.std.proofs.Common.{◌≡◌, ℕ, suc, ◌+◌, ◌<◌, Bool, false, eqb, cond, not, ◌&&◌, ◌||◌, ◌≢◌, List, [], ◌∷◌, length, set, Some, sym, refl, ap, ◌∙◌, ⊎_elim, zero-add, add-one, arith}
+use Rattle.std.specs.List.{find, list_any, range_with_len}
+use Rattle.std.proofs.Math.Bool.{not-not}
+use Rattle.std.proofs.lemmas.Bool.{cases_eq, eq-eqb, ne_eqb}
+use Rattle.std.proofs.lemmas.List.{length-set, length-map, get_or-set_other}
 use Rattle.protocol.specs.declared.state.State.{State}
 use Rattle.protocol.specs.States.{valid, owned}
-use Rattle.rules.specs.Columns.{Copy, none, some, alone, owner_from, state_at}
+use Rattle.rules.specs.Columns.{Copy, none, some, alone, owner_from, owner_of, state_at}
 use Rattle.rules.specs.Caches.{Cache, look}
 use Rattle.rules.specs.Machines.{copies_of}
 use Rattle.caches.specs.declared.table.Caches.{Caches}
@@ -12,53 +17,52 @@ use Rattle.caches.specs.Views.{caches_of}
 use Rattle.caches.proofs.Places.{caches-long}
 use Rattle.caches.proofs.Sweeps.{own-none}
 
--- the copies of all seats but one
-abbrev pub others : Caches → (r n : ℕ) → List Copy
-others s r n = set (copies_of n (caches_of s)) r none
+module _ (t : ℕ → Bool) where
+  abbrev Tests : (State → Bool) → ℕ → List Copy → Type 0
+  Tests p k xs = (i j : ℕ) → i < length xs → j ≡ k + i → t j ≡ p (state_at xs i)
+
+  find-owner : (k : ℕ) (xs : List Copy) → Tests owned k xs → find t (range_with_len k (length xs)) ≡ owner_from k xs
+  find-owner k [] h = refl
+  find-owner k (x ∷ xs) h =
+      ap (λ (b : Bool). cond b (Some k) (find t (range_with_len (k + 1) (length xs)))) (h 0 k (omega arith) (omega arith))
+      ∙ ap (cond (owned x.state) (Some k))
+      (find-owner (k + 1) xs (λ i j l e. h (suc i) j (omega arith) (omega arith)) ∙ ap (λ (m : ℕ). owner_from m xs) (add-one k))
+
+  any-holds : (k : ℕ) (xs : List Copy) → Tests valid k xs → list_any t (range_with_len k (length xs)) ≡ some valid xs
+  any-holds k [] h = refl
+  any-holds k (x ∷ xs) h =
+      ap (λ (b : Bool). b || list_any t (range_with_len (k + 1) (length xs))) (h 0 k (omega arith) (omega arith))
+      ∙ ap (λ (b : Bool). valid x.state || b) (any-holds (k + 1) xs (λ i j l e. h (suc i) j (omega arith) (omega arith)))
 
 module _ (s : Caches) (r n : ℕ) where
-  others-long : length (others s r n) ≡ s.seats
+  abbrev pub test : (State → Bool) → ℕ → Bool
+  test p k = not (eqb k r) && p (state_at (copies_of n (caches_of s)) k)
+
+  -- the copies of all seats but the requester
+  abbrev others : List Copy
+  others = set (copies_of n (caches_of s)) r none
+
+  others-long : length others ≡ s.agreed.seats
   others-long = length-set (copies_of n (caches_of s)) r none ∙ length-map (caches_of s) (λ (c : Cache). look c n) ∙ caches-long s
 
-  module _ (k : ℕ) where
-    other-state : k ≢ r → state_at (copies_of n (caches_of s)) k ≡ state_at (others s r n) k
-    other-state ne = ap (λ (x : Copy). x.state) (sym (get_or-set_other (copies_of n (caches_of s)) r k none none ne))
+  test-others : (p : State → Bool) → p none.state ≡ false → (k : ℕ) → test p k ≡ p (state_at others k)
+  test-others p e k =
+      ⊎_elim
+      (λ (same : k ≡ r).
+      ap (λ (b : Bool). not b && p (state_at (copies_of n (caches_of s)) k)) (eq-eqb k r same)
+      ∙ sym (ap (λ (j : ℕ). p (state_at others j)) same ∙ ap (λ (x : Copy). p x.state) (own-none (copies_of n (caches_of s)) r) ∙ e))
+      (λ (other : k ≢ r).
+      ap (λ (b : Bool). not b && p (state_at (copies_of n (caches_of s)) k)) (ne_eqb k r other)
+      ∙ ap (λ (x : Copy). p x.state) (sym (get_or-set_other (copies_of n (caches_of s)) r k none none other)))
+      (cases_eq k r)
 
-    own-state : (p : State → Bool) → p none.state ≡ false → k ≡ r → p (state_at (others s r n) k) ≡ false
-    own-state p e same = ap (λ (j : ℕ). p (state_at (others s r n) j)) same ∙ ap (λ (x : Copy). p x.state) (own-none (copies_of n (caches_of s)) r) ∙ e
+  tests : (p : State → Bool) → p none.state ≡ false → Tests (test p) p 0 others
+  tests p e i j l at = ap (test p) (at ∙ zero-add i) ∙ test-others p e i
 
-    -- this seat, seen from another: by whether it is the requester, and what its copy is
-    pub passed : (p : State → Bool) → k ≢ r → (t : State) → t ≡ state_at (copies_of n (caches_of s)) k → p (state_at (others s r n) k) ≡ p t
-    passed p ne t e = ap p (sym (e ∙ other-state ne))
+  pub first-owner : find (test owned) (range_with_len 0 s.agreed.seats) ≡ owner_of others
+  first-owner = ap (λ (m : ℕ). find (test owned) (range_with_len 0 m)) (sym others-long) ∙ find-owner (test owned) 0 others (tests owned refl)
 
-    pub skipped : (p : State → Bool) → p none.state ≡ false → k ≡ r → p (state_at (others s r n) k) ≡ false
-    skipped p e same = own-state p e same
-
-    module _ (on : k < s.seats) where
-      rest : drop k (others s r n) ≡ get_or (others s r n) k none ∷ drop (k + 1) (others s r n)
-      rest = let e = others-long in drop_more (others s r n) k none (omega arith)
-
-      pub owner_here : owned (state_at (others s r n) k) ≡ true → owner_from k (drop k (others s r n)) ≡ Some k
-      owner_here e = ap (owner_from k) rest ∙ cond-true (owned (state_at (others s r n) k)) (Some k) (owner_from (suc k) (drop (k + 1) (others s r n))) e
-
-      pub owner-next : owned (state_at (others s r n) k) ≡ false → owner_from k (drop k (others s r n)) ≡ owner_from (k + 1) (drop (k + 1) (others s r n))
-      owner-next e =
-          ap (owner_from k) rest ∙ cond-false (owned (state_at (others s r n) k)) (Some k) (owner_from (suc k) (drop (k + 1) (others s r n))) e
-          ∙ ap (λ (j : ℕ). owner_from j (drop (k + 1) (others s r n))) (sym (add-one k))
-
-      pub some-here : valid (state_at (others s r n) k) ≡ true → some valid (drop k (others s r n)) ≡ true
-      some-here e = ap (some valid) rest ∙ or_left (valid (state_at (others s r n) k)) (some valid (drop (k + 1) (others s r n))) e
-
-      pub some_next : valid (state_at (others s r n) k) ≡ false → some valid (drop k (others s r n)) ≡ some valid (drop (k + 1) (others s r n))
-      some_next e = ap (some valid) rest ∙ ap (λ (b : Bool). b || some valid (drop (k + 1) (others s r n))) e
-
-    pub owner-past : s.seats ≤ k → owner_from k (drop k (others s r n)) ≡ None
-    owner-past l = let e = others-long in ap (owner_from k) (drop_all k (others s r n) (omega arith))
-
-    pub some-past : s.seats ≤ k → some valid (drop k (others s r n)) ≡ false
-    some-past l = let e = others-long in ap (some valid) (drop_all k (others s r n) (omega arith))
-
--- whether a line is shared, from what some seat holds
-pub not-alone : (r : ℕ) (xs : List Copy) (b : Bool) → some valid (set xs r none) ≡ b → b ≡ not (alone r xs)
-not-alone r xs true e = sym (ap (λ (c : Bool). not (not c)) e)
-not-alone r xs false e = sym (ap (λ (c : Bool). not (not c)) e)
+  pub some-other : list_any (test valid) (range_with_len 0 s.agreed.seats) ≡ not (alone r (copies_of n (caches_of s)))
+  some-other =
+      ap (λ (m : ℕ). list_any (test valid) (range_with_len 0 m)) (sym others-long) ∙ any-holds (test valid) 0 others (tests valid refl)
+      ∙ sym (not-not (some valid others))

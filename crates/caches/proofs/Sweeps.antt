@@ -1,7 +1,10 @@
 -- What a requester is told, seat by seat: the answer that grows with each seat says of all of them what the rules say.
 --
--- sweep   the answer after the seats from k on have reacted, of their copies before and after
+-- sweep      the answer after the seats from k on have reacted, of their copies before and after
+-- owner_in   the first owner from seat k on, and what it supplies
 use Rattle.std.proofs.Common.{◌≡◌, ℕ, zero, suc, ◌+◌, ◌≤◌, Bool, true, false, cond, not, ◌&&◌, ◌||◌, ◌≢◌, List, [], ◌∷◌, ◌++◌, length, get_or, set, is_some, Some, None, Option, sym, refl, ap, ◌∙◌, add-zero, add_assoc, zero-add, add-one, arith}
+use Rattle.std.specs.Option.{option_map, option_map_or, option_or}
+use Rattle.std.proofs.Math.Bool.{or-false, not-not}
 use Rattle.std.proofs.lemmas.Bool.{both_ways}
 use Rattle.std.proofs.lemmas.List.{get_or_at, get_or-set_other, append_assoc, length_push, length-set}
 use Rattle.protocol.specs.declared.state.State.{State}
@@ -12,6 +15,7 @@ use Rattle.rules.specs.Transactions.{is_o, leaves_o}
 use Rattle.rules.specs.Machines.{lost_in}
 use Rattle.rules.proofs.Seats.{owner_owns}
 use Rattle.caches.specs.declared.heeded.Heeded.{Heeded}
+use Rattle.caches.specs.declared.heeded.Owner.{Owner}
 use Rattle.caches.specs.Heeding.{Heeds, unheeded, noted}
 
 -- the answer after the seats from k on
@@ -20,77 +24,61 @@ sweep k a [] ys = a
 sweep k a (x ∷ xs) [] = a
 sweep k a (x ∷ xs) (y ∷ ys) = sweep (suc k) (noted k x y.state a) xs ys
 
--- the first of two, where there is one
-abbrev or_else : Option ℕ → Option ℕ → Option ℕ
-or_else None p = p
-or_else (Some j) p = Some j
+-- the first owner from seat k on, and what it supplies: of the copies before and after
+abbrev pub owner_in : ℕ → List Copy → List Copy → Option Owner
+owner_in k [] ys = None
+owner_in k (x ∷ xs) [] = None
+owner_in k (x ∷ xs) (y ∷ ys) = cond (owned x.state) (Some (record { seat = k; words = x.words; reflected = not (is_o y.state) })) (owner_in (suc k) xs ys)
 
-owner-step : (t : Bool) (o p : Option ℕ) (k : ℕ) → or_else (cond (t && not (is_some o)) (Some k) o) p ≡ or_else o (cond t (Some k) p)
-owner-step true None p k = refl
-owner-step true (Some j) p k = refl
-owner-step false None p k = refl
-owner-step false (Some j) p k = refl
+owner-step : (t : Bool) (o p : Option Owner) (w : Owner) → option_or (cond (t && not (is_some o)) (Some w) o) p ≡ option_or o (cond t (Some w) p)
+owner-step true None p w = refl
+owner-step true (Some v) p w = refl
+owner-step false None p w = refl
+owner-step false (Some v) p w = refl
 
-sweep-owner : (k : ℕ) (a : Heeded) (xs ys : List Copy) → length xs ≡ length ys → (sweep k a xs ys).owner ≡ or_else a.owner (owner_from k xs)
+sweep-owner : (k : ℕ) (a : Heeded) (xs ys : List Copy) → length xs ≡ length ys → (sweep k a xs ys).owner ≡ option_or a.owner (owner_in k xs ys)
 sweep-owner k a [] ys e = sym (or-none a.owner)
   where
-    or-none : (o : Option ℕ) → or_else o None ≡ o
+    or-none : (o : Option Owner) → option_or o None ≡ o
     or-none None = refl
-    or-none (Some j) = refl
+    or-none (Some v) = refl
 sweep-owner k a (x ∷ xs) [] e = absurd (omega arith)
 sweep-owner k a (x ∷ xs) (y ∷ ys) e =
-    sweep-owner (suc k) (noted k x y.state a) xs ys (omega arith) ∙ owner-step (owned x.state) a.owner (owner_from (suc k) xs) k
+    sweep-owner (suc k) (noted k x y.state a) xs ys (omega arith)
+    ∙ owner-step (owned x.state) a.owner (owner_in (suc k) xs ys) (record { seat = k; words = x.words; reflected = not (is_o y.state) })
 
-words_step : (t : Bool) (o : Option ℕ) (k : ℕ) (w v p : List ℕ) →
-    cond (is_some (cond (t && not (is_some o)) (Some k) o)) (cond (t && not (is_some o)) w v) p ≡ cond (is_some o) v (cond t w p)
-words_step true None k w v p = refl
-words_step true (Some j) k w v p = refl
-words_step false None k w v p = refl
-words_step false (Some j) k w v p = refl
-
-sweep-words : (k : ℕ) (a : Heeded) (xs ys : List Copy) (home : List ℕ) → length xs ≡ length ys →
-    cond (is_some (sweep k a xs ys).owner) (sweep k a xs ys).words home ≡ cond (is_some a.owner) a.words (supplied xs home)
-sweep-words k a [] ys home e = refl
-sweep-words k a (x ∷ xs) [] home e = absurd (omega arith)
-sweep-words k a (x ∷ xs) (y ∷ ys) home e =
-    sweep-words (suc k) (noted k x y.state a) xs ys home (omega arith)
-    ∙ words_step (owned x.state) a.owner k x.words a.words (supplied xs home)
-
--- the first owner does not end in Owned; d where there is none
-abbrev first_leaves : Bool → List Copy → List Copy → Bool
-first_leaves d [] ys = d
-first_leaves d (x ∷ xs) [] = d
-first_leaves d (x ∷ xs) (y ∷ ys) = cond (owned x.state) (not (is_o y.state)) (first_leaves d xs ys)
-
-reflected-step : (t : Bool) (o : Option ℕ) (k : ℕ) (u d : Bool) (F : Bool → Bool) →
-    cond (is_some (cond (t && not (is_some o)) (Some k) o)) (cond (t && not (is_some o)) u d) (F (cond (t && not (is_some o)) u d)) ≡ cond (is_some o) d (cond t u (F d))
-reflected-step true None k u d F = refl
-reflected-step true (Some j) k u d F = refl
-reflected-step false None k u d F = refl
-reflected-step false (Some j) k u d F = refl
-
-either_same : (b c : Bool) → c ≡ cond b c c
-either_same true c = refl
-either_same false c = refl
-
-sweep-reflected : (k : ℕ) (a : Heeded) (xs ys : List Copy) → length xs ≡ length ys →
-    (sweep k a xs ys).reflected ≡ cond (is_some a.owner) a.reflected (first_leaves a.reflected xs ys)
-sweep-reflected k a [] ys e = either_same (is_some a.owner) a.reflected
-sweep-reflected k a (x ∷ xs) [] e = absurd (omega arith)
-sweep-reflected k a (x ∷ xs) (y ∷ ys) e =
-    sweep-reflected (suc k) (noted k x y.state a) xs ys (omega arith)
-    ∙ reflected-step (owned x.state) a.owner k (not (is_o y.state)) a.reflected (λ d. first_leaves d xs ys)
-
--- the same by the number of the owner's seat
-first-leaves : (before xs ys : List Copy) → length xs ≡ length ys → first_leaves false xs ys ≡ leaves_o (owner_from (length before) xs) (before ++ ys)
-first-leaves before [] ys e = refl
-first-leaves before (x ∷ xs) [] e = absurd (omega arith)
-first-leaves before (x ∷ xs) (y ∷ ys) e =
+-- its seat, its words, and whether it does not end in Owned, by the number of its seat
+seat-in : (k : ℕ) (xs ys : List Copy) → length xs ≡ length ys → option_map (λ (o : Owner). o.seat) (owner_in k xs ys) ≡ owner_from k xs
+seat-in k [] ys e = refl
+seat-in k (x ∷ xs) [] e = absurd (omega arith)
+seat-in k (x ∷ xs) (y ∷ ys) e =
     elim (owned x.state) as
-    (λ b. cond b (not (is_o y.state)) (first_leaves false xs ys) ≡ leaves_o (cond b (Some (length before)) (owner_from (suc (length before)) xs)) (before ++ (y ∷ ys))) [
+    (λ b. option_map (λ (o : Owner). o.seat) (cond b (Some (record { seat = k; words = x.words; reflected = not (is_o y.state) })) (owner_in (suc k) xs ys)) ≡ cond b (Some k) (owner_from (suc k) xs)) [
+      | true ↦ refl
+      | false ↦ seat-in (suc k) xs ys (omega arith)
+    ]
+
+words-in : (k : ℕ) (xs ys : List Copy) (home : List ℕ) → length xs ≡ length ys → option_map_or (λ (o : Owner). o.words) (owner_in k xs ys) home ≡ supplied xs home
+words-in k [] ys home e = refl
+words-in k (x ∷ xs) [] home e = absurd (omega arith)
+words-in k (x ∷ xs) (y ∷ ys) home e =
+    elim (owned x.state) as
+    (λ b. option_map_or (λ (o : Owner). o.words) (cond b (Some (record { seat = k; words = x.words; reflected = not (is_o y.state) })) (owner_in (suc k) xs ys)) home ≡ cond b x.words (supplied xs home)) [
+      | true ↦ refl
+      | false ↦ words-in (suc k) xs ys home (omega arith)
+    ]
+
+leaves-in : (before xs ys : List Copy) → length xs ≡ length ys →
+    option_map_or (λ (o : Owner). o.reflected) (owner_in (length before) xs ys) false ≡ leaves_o (owner_from (length before) xs) (before ++ ys)
+leaves-in before [] ys e = refl
+leaves-in before (x ∷ xs) [] e = absurd (omega arith)
+leaves-in before (x ∷ xs) (y ∷ ys) e =
+    elim (owned x.state) as
+    (λ b. option_map_or (λ (o : Owner). o.reflected) (cond b (Some (record { seat = length before; words = x.words; reflected = not (is_o y.state) })) (owner_in (suc (length before)) xs ys)) false ≡ leaves_o (cond b (Some (length before)) (owner_from (suc (length before)) xs)) (before ++ (y ∷ ys))) [
       | true ↦ ap (λ (z : Copy). not (is_o z.state)) (sym (get_or_at before y ys none (length before) refl))
       | false ↦
-          first-leaves (before ++ y ∷ []) xs ys (omega arith)
+          ap (λ (m : ℕ). option_map_or (λ (o : Owner). o.reflected) (owner_in m xs ys) false) (sym (length_push before y ∙ add-one (length before)))
+          ∙ leaves-in (before ++ y ∷ []) xs ys (omega arith)
           ∙ ap (λ (m : ℕ). leaves_o (owner_from m xs) ((before ++ y ∷ []) ++ ys)) (length_push before y ∙ add-one (length before))
           ∙ ap (leaves_o (owner_from (suc (length before)) xs)) (append_assoc before (y ∷ []) ys)
     ]
@@ -118,12 +106,8 @@ or_step true false q = refl
 or_step false true q = refl
 or_step false false q = refl
 
-or-none : (b : Bool) → b ≡ (b || false)
-or-none true = refl
-or-none false = refl
-
 sweep-shared : (k : ℕ) (a : Heeded) (xs ys : List Copy) → length xs ≡ length ys → (sweep k a xs ys).shared ≡ (a.shared || some valid ys)
-sweep-shared k a [] [] e = or-none a.shared
+sweep-shared k a [] [] e = sym (or-false a.shared)
 sweep-shared k a [] (y ∷ ys) e = absurd (omega arith)
 sweep-shared k a (x ∷ xs) [] e = absurd (omega arith)
 sweep-shared k a (x ∷ xs) (y ∷ ys) e =
@@ -142,21 +126,18 @@ lost-own (x ∷ xs) [] r = refl
 lost-own (x ∷ xs) (y ∷ ys) zero = refl
 lost-own (x ∷ xs) (y ∷ ys) (suc r) = ap (λ (m : ℕ). one (valid x.state && not (valid y.state)) + m) (lost-own xs ys r)
 
-not-not : (b : Bool) → b ≡ not (not b)
-not-not true = refl
-not-not false = refl
-
 -- the whole sweep is what the requester is to be told
 pub heeds : (r : ℕ) (xs ys : List Copy) (a : Heeded) → length xs ≡ length ys → a ≡ sweep 0 unheeded (set xs r none) (set ys r none) → a.lost ≤ 8 → Heeds r xs ys a
 heeds r xs ys a e is few =
     let us = set xs r none in
     let vs = set ys r none in
     let long : length us ≡ length vs = length-set xs r none ∙ e ∙ sym (length-set ys r none) in
+    let owner : a.owner ≡ owner_in 0 us vs = ap (λ (b : Heeded). b.owner) is ∙ sweep-owner 0 unheeded us vs long in
     record {
-      owner = ap (λ (b : Heeded). b.owner) is ∙ sweep-owner 0 unheeded us vs long;
-      words = λ home. sym (ap (λ (b : Heeded). cond (is_some b.owner) b.words home) is ∙ sweep-words 0 unheeded us vs home long);
-      reflected = ap (λ (b : Heeded). b.reflected) is ∙ sweep-reflected 0 unheeded us vs long ∙ first-leaves [] us vs long ∙ leaves-same xs ys r (owner_of us) refl;
-      shared = ap (λ (b : Heeded). b.shared) is ∙ sweep-shared 0 unheeded us vs long ∙ not-not (some valid vs);
+      owner = ap (option_map (λ (o : Owner). o.seat)) owner ∙ seat-in 0 us vs long;
+      words = λ home. sym (ap (λ (p : Option Owner). option_map_or (λ (o : Owner). o.words) p home) owner ∙ words-in 0 us vs home long);
+      reflected = ap (λ (p : Option Owner). option_map_or (λ (o : Owner). o.reflected) p false) owner ∙ leaves-in [] us vs long ∙ leaves-same xs ys r (owner_of us) refl;
+      shared = ap (λ (b : Heeded). b.shared) is ∙ sweep-shared 0 unheeded us vs long ∙ sym (not-not (some valid vs));
       gone = ap (λ (b : Heeded). b.lost) is ∙ sweep-lost 0 unheeded us vs long ∙ zero-add (lost_in us vs) ∙ lost-own xs ys r;
       few = few;
     }
@@ -164,7 +145,7 @@ heeds r xs ys a e is few =
 -- a seat that has no copy is noted by nothing
 pub noted-none : (k : ℕ) (a : Heeded) → noted k none Invalid a ≡ a
 noted-none k a =
-    ap (λ (m : ℕ). record { owner = a.owner; words = a.words; reflected = a.reflected; shared = a.shared; lost = m }) (add-zero a.lost)
+    ap (λ (m : ℕ). record { owner = a.owner; shared = a.shared; lost = m }) (add-zero a.lost)
 
 one-most : (b : Bool) → one b ≤ 1
 one-most true = omega arith

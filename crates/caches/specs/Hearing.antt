@@ -2,10 +2,9 @@
 --
 -- state_heard   the state that a copy in a state goes to, by the cells of its own seat
 -- words_heard   its words then, if it is left valid
--- Within       the word that is told is one of the line's four
 -- reaction     what one copy becomes
 -- heard_by      what every seat's copy becomes: all but the requester's react
-use Rattle.std.specs.Prelude.{ℕ, ◌<◌, List, slice_index_or, slice_set}
+use Rattle.std.specs.Prelude.{ℕ, List, slice_index_or, slice_set}
 use Rattle.protocol.specs.declared.state.State.{State}
 use Rattle.rules.specs.Columns.{Copy, kept, none}
 use Rattle.rules.specs.Transactions.{Protocol, heard_rs, heard_up, heard_tu, gone, same, hear}
@@ -17,8 +16,8 @@ abbrev pub state_heard : Heard → (ℕ → ℕ) → State → State
 state_heard ReadShared c s = heard_rs c s
 state_heard ReadInvalidate c s = gone s
 state_heard Invalidate c s = gone s
-state_heard (Update o v) c s = heard_up c s
-state_heard (ThroughUpdate o v) c s = heard_tu c s
+state_heard (Update st) c s = heard_up c s
+state_heard (ThroughUpdate st) c s = heard_tu c s
 state_heard ThroughInvalidate c s = gone s
 
 -- the words that a copy left valid has then
@@ -26,18 +25,9 @@ abbrev pub words_heard : Heard → List ℕ → List ℕ
 words_heard ReadShared w = same w
 words_heard ReadInvalidate w = same w
 words_heard Invalidate w = same w
-words_heard (Update o v) w = slice_set w o v
-words_heard (ThroughUpdate o v) w = slice_set w o v
+words_heard (Update st) w = slice_set w st.word st.value
+words_heard (ThroughUpdate st) w = slice_set w st.word st.value
 words_heard ThroughInvalidate w = same w
-
--- the word that is told is one of the line's four
-abbrev pub Within : Heard → Type 0
-Within ReadShared = Unit {0}
-Within ReadInvalidate = Unit {0}
-Within Invalidate = Unit {0}
-Within (Update o v) = o < 4
-Within (ThroughUpdate o v) = o < 4
-Within ThroughInvalidate = Unit {0}
 
 -- what one copy becomes, by its own seat's cells
 abbrev pub reaction : (ℕ → ℕ) → Heard → Copy → Copy

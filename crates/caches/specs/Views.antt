@@ -19,4 +19,4 @@ table_view seats sets table = map (row_view sets) (take seats table)
 
 -- the caches that the table stands for
 unfoldable pub caches_of : Caches → List Cache
-caches_of c = table_view c.seats c.sets c.table
+caches_of c = table_view c.agreed.seats c.agreed.sets c.table

@@ -2,6 +2,7 @@
 ghost use Rattle.std.specs.Prelude.{◌≡◌};
 ghost use Rattle.protocol.specs.States.{state_of};
 
+use crate::store::Store;
 use protocol::{Protocol, State};
 
 /// A transaction of another seat, as a copy of the line hears it. A write back is heard by nobody.
@@ -14,16 +15,17 @@ pub enum Heard {
     /// Invalidate: the copy goes.
     Invalidate,
     /// Update: the copy goes by the cell of its state, and takes the word.
-    Update { word: usize, value: u32 },
+    Update(Store),
     /// Through with update: a shared copy goes by its cell, and takes the word; an owner takes the word.
-    ThroughUpdate { word: usize, value: u32 },
+    ThroughUpdate(Store),
     /// Through with invalidate: the copy goes.
     ThroughInvalidate,
 }
 
 /// The state that a seat's cell names.
+// The cell goes by its number, as a protocol is asked for it, so that one above the last has an answer too.
 pub fn cell_state<P: Protocol>(protocol: &P, seat: usize, cell: u8) -> State
     ensures { result ≡ state_of (P.cells protocol.now seat cell) }
 {
-    State::from_letter(protocol.cell(seat, cell)).unwrap_or(State::Invalid)
+    State::try_from(protocol.cell(seat, cell)).unwrap_or(State::Invalid)
 }

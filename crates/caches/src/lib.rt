@@ -5,10 +5,12 @@ mod agreed;
 mod heard;
 mod heeded;
 mod line;
+mod store;
 mod table;
 
 pub use agreed::Agreed;
 pub use heard::{Heard, cell_state};
-pub use heeded::Heeded;
+pub use heeded::{Heeded, Owner};
 pub use line::CacheLine;
+pub use store::Store;
 pub use table::Caches;

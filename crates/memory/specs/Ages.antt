@@ -8,9 +8,11 @@
 -- holds        whether a line waits
 -- Newest       a place where a line waits, with none newer
 -- Apart        no line waits twice
+-- Wide         each waiting line has as many words as a line has
 -- changed      the waiting lines after the words of one changed
 -- over         what stands below, as it will be once all that waits has gone down
 use Rattle.std.specs.Prelude.{◌≡◌, ℕ, ◌+◌, ◌<◌, Bool, false, cond, ◌||◌, List, [], ◌∷◌, length, drop, ◌==◌, ◌≢◌, slice_index_or, slice_set}
+use Rattle.memory.specs.Lines.{words_in_line}
 use Rattle.memory.specs.declared.queue.Waiting.{Waiting}
 
 -- what stands at a place where no line waits
@@ -47,6 +49,10 @@ pub record Newest (line : ℕ) (ws : List Waiting) (i : ℕ) : Type 0 where
 -- no line waits twice
 abbrev pub Apart : List Waiting → Type 0
 Apart ws = (i j : ℕ) → i < j → j < length ws → (slice_index_or ws i blank).line ≢ (slice_index_or ws j blank).line
+
+-- each waiting line has as many words as a line has
+abbrev pub Wide : List Waiting → Type 0
+Wide ws = (k : ℕ) → k < length ws → length (slice_index_or ws k blank).words ≡ words_in_line
 
 -- the words of a waiting line changed where it waits; every line keeps its age
 abbrev pub changed : ℕ → (List ℕ → List ℕ) → List Waiting → List Waiting

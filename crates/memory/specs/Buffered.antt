@@ -1,27 +1,16 @@
 -- A buffer as a memory: its lines are lawful, as many as below, and read where they wait or else below.
-use Rattle.std.specs.Prelude.{◌≡◌, ℕ, false, List, [], length, Result, slice_index_or}
-use Rattle.std.proofs.Common.{ap, ◌∙◌, arith}
+use Rattle.std.specs.Prelude.{◌≡◌, ℕ, false, List, [], Result, slice_index_or}
 use Rattle.refusal.specs.Refusals.{Answers}
 use Rattle.refusal.specs.declared.Refusal.{Refusal}
 use Rattle.memory.specs.Ages.{holds}
 use Rattle.memory.specs.Buffers.{Buffer, buffer, seen}
 use Rattle.memory.specs.Lines.{Lawful, line_due}
-use Rattle.memory.specs.Waits.{waiting_in}
-use Rattle.memory.specs.declared.queue.Queue.{Queue}
 use Rattle.memory.specs.declared.write_buffer.WriteBuffer.{WriteBuffer}
-use Rattle.memory.specs.Covers.{Wide, length_over, over-other, lawful-over}
-use Rattle.memory.specs.Tables.{front_long, front_at}
-
-pub queue-wide : (q : Queue) → Wide (waiting_in q)
-queue-wide q k h =
-    let w = q.within in
-    let p = q.places in
-    let long = front_long q.table q.count (omega arith) in
-    ap (λ x. length x.words) (front_at q.table q.count (omega arith) k (omega arith)) ∙ q.wide k (omega arith)
+use Rattle.memory.specs.Covers.{length_over, over-other, lawful-over}
 
 pub lawful-buffer : {M : Type 0} (lines settled : M → List (List ℕ)) → ((m : M) → Lawful (lines m) (settled m)) → (b : WriteBuffer M) → Lawful (seen (buffer lines b)) (settled b.below)
 lawful-buffer lines settled law b =
-    lawful-over (waiting_in b.queue) (lines b.below) (settled b.below) (queue-wide b.queue) (law b.below)
+    lawful-over b.queue (lines b.below) (settled b.below) b.whole (law b.below)
 
 -- a line that does not wait is answered as below
 pub read_below : (b : Buffer) (line : ℕ) (r : Result (List ℕ) Refusal) → holds line b.waiting ≡ false → Answers (line_due b.below line) (slice_index_or b.below line []) r → Answers (line_due (seen b) line) (slice_index_or (seen b) line []) r

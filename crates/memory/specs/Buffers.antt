@@ -2,15 +2,15 @@
 --
 -- Buffer     the waiting lines, oldest first, and the lines below
 -- seen       what reads answer
--- held_changed, sent_from, room_made, come  the steps of a call
+-- held_changed, sent_from, oldest_sent, room_made, come  the steps of a call
 -- line_taken  after a line was written
 -- word_taken  after a word was written
 -- all_sent    after everything that waits went down
 -- buffer     the two lists of a `WriteBuffer`
-use Rattle.std.specs.Prelude.{ℕ, cond, List, [], ◌∷◌, ◌++◌, slice_set}
+-- Steps      a `WriteBuffer` before and after such a step
+use Rattle.std.specs.Prelude.{◌≡◌, ℕ, cond, List, [], ◌∷◌, ◌++◌, slice_set}
 use Rattle.memory.specs.Ages.{waits, full, holds, changed, over}
 use Rattle.memory.specs.Lines.{word_written}
-use Rattle.memory.specs.Waits.{waiting_in}
 use Rattle.memory.specs.declared.queue.Waiting.{Waiting}
 use Rattle.memory.specs.declared.write_buffer.WriteBuffer.{WriteBuffer}
 
@@ -31,6 +31,10 @@ held_changed line f b = record { waiting = changed line f b.waiting; below = b.b
 abbrev pub sent_from : List Waiting → List (List ℕ) → Buffer
 sent_from [] lines = record { waiting = []; below = lines }
 sent_from (w ∷ ws) lines = record { waiting = ws; below = slice_set lines w.line w.words }
+
+-- the oldest of a buffer goes down
+abbrev pub oldest_sent : Buffer → Buffer
+oldest_sent b = sent_from b.waiting b.below
 
 -- of a full buffer the oldest goes down
 abbrev pub room_made : Buffer → Buffer
@@ -59,4 +63,9 @@ all_sent b = record { waiting = []; below = over b.waiting b.below }
 
 -- lines gives the lines of the memory below
 abbrev pub buffer : {M : Type 0} → (M → List (List ℕ)) → WriteBuffer M → Buffer
-buffer lines b = record { waiting = waiting_in b.queue; below = lines b.below }
+buffer lines b = record { waiting = b.queue; below = lines b.below }
+
+-- what waits and what stands below became what a rule makes of them, and the rest of the memory below was kept
+pub record Steps {M A : Type 0} (lines : M → List (List ℕ)) (aside : M → A) (rule : Buffer → Buffer) (old new : WriteBuffer M) : Type 0 where
+  pub made : buffer lines new ≡ rule (buffer lines old)
+  pub kept : aside new.below ≡ aside old.below

@@ -1,9 +1,9 @@
 -- Waiting lines put over the lines below: what a read finds, and what a write comes to.
-use Rattle.std.specs.Prelude.{◌≡◌, ℕ, zero, suc, ◌+◌, ◌<◌, true, false, List, [], ◌∷◌, ◌++◌, length, get_or, set, ◌==◌, ◌≢◌, nat_eq, slice_index_or, slice_set, refl}
+use Rattle.std.specs.Prelude.{◌≡◌, ℕ, zero, suc, ◌+◌, ◌<◌, true, false, cond, List, [], ◌∷◌, ◌++◌, length, get_or, set, ◌==◌, ◌≢◌, nat_eq, slice_index_or, slice_set, refl}
 use Rattle.std.proofs.Common.{sym, ap, ◌∙◌, ⊎_elim, arith}
 use Rattle.std.proofs.lemmas.List.{get_or-set_same, get_or-set_other, length-set, set_comm, set_past, set-set}
 use Rattle.std.proofs.lemmas.Bool.{cases_Bool, cases_eq, cases_lt, cond-true, eq-eqb, eqb-true, eqb-false, or_left, or_right, or_parts, both_ways, cond_both, ne_eqb}
-use Rattle.memory.specs.Ages.{Apart, blank, waits, with_words, full, holds, Newest, changed, over}
+use Rattle.memory.specs.Ages.{Apart, blank, waits, with_words, full, holds, Newest, Wide, changed, over}
 use Rattle.memory.specs.Buffers.{Buffer, held_changed, seen, sent_from, room_made, come, line_taken, word_taken}
 use Rattle.memory.specs.Lines.{Shaped, Lawful, word_written, words_in_line}
 use Rattle.memory.specs.declared.queue.Waiting.{Waiting}
@@ -135,24 +135,25 @@ seen-room b =
     cond_both (full b.waiting) (sent_from b.waiting b.below) b (λ x. seen x ≡ seen b) (λ _. seen-sent b) (λ _. refl)
 
 module _ (line : ℕ) (b : Buffer) where
-  pub seen-line : (words : List ℕ) → seen (line_taken line words b) ≡ slice_set (seen b) line words
-  seen-line words =
+  -- a held line is changed, or something else happens that comes to the same for a reader
+  seen-held : (f : List ℕ → List ℕ) (other : Buffer) → (holds line b.waiting ≡ false → seen other ≡ slice_set (seen b) line (f (slice_index_or (seen b) line []))) → seen (cond (holds line b.waiting) (held_changed line f b) other) ≡ slice_set (seen b) line (f (slice_index_or (seen b) line []))
+  seen-held f other same =
       cond_both
       (holds line b.waiting)
-      (held_changed line (λ _. words) b)
-      (come line words (room_made b))
-      (λ x. seen x ≡ slice_set (seen b) line words)
-      (λ t. over-changed line (λ _. words) b.waiting b.below t)
+      (held_changed line f b)
+      other
+      (λ x. seen x ≡ slice_set (seen b) line (f (slice_index_or (seen b) line [])))
+      (λ t. over-changed line f b.waiting b.below t)
+      same
+
+  pub seen-line : (words : List ℕ) → seen (line_taken line words b) ≡ slice_set (seen b) line words
+  seen-line words =
+      seen-held (λ _. words) (come line words (room_made b))
       (λ _. over-push (room_made b).waiting (waits line words) (room_made b).below ∙ ap (λ x. set x line words) (seen-room b))
 
   pub seen-word : (word value : ℕ) → seen (word_taken line word value b) ≡ word_written (seen b) line word value
   seen-word word value =
-      cond_both
-      (holds line b.waiting)
-      (held_changed line (λ words. set words word value) b)
-      (record { waiting = b.waiting; below = word_written b.below line word value })
-      (λ x. seen x ≡ word_written (seen b) line word value)
-      (λ t. over-changed line (λ words. set words word value) b.waiting b.below t)
+      seen-held (λ words. set words word value) (record { waiting = b.waiting; below = word_written b.below line word value })
       (λ t. over-set b.waiting line (slice_set (slice_index_or b.below line []) word value) b.below t ∙ ap (λ x. set (seen b) line (slice_set x word value)) (sym (over-other b.waiting line b.below t)))
 
 -- whole lines put over whole lines
@@ -163,9 +164,6 @@ shaped-set lines i v shaped long n h =
     (λ e. rw e (ap length (get_or-set_same lines i v [] (omega arith)) ∙ long))
     (λ ne. ap length (get_or-set_other lines i n v [] ne) ∙ shaped n (omega arith))
     (cases_eq n i)
-
-abbrev pub Wide : List Waiting → Type 0
-Wide ws = (k : ℕ) → k < length ws → length (get_or ws k blank).words ≡ words_in_line
 
 pub shaped-over : (ws : List Waiting) (lines : List (List ℕ)) → Wide ws → Shaped lines → Shaped (over ws lines)
 shaped-over [] lines wide shaped = shaped
@@ -184,13 +182,7 @@ room-left (w ∷ ws) lines h =
     let n = eqb-true (suc (length ws)) 4 h in ne_eqb (length ws) 4 (λ e. omega arith)
 
 -- a held line changed at its newest place, as the buffer's rules have it
-module _ (line : ℕ) (b : Buffer) (i : ℕ) (a : Apart b.waiting) (n : Newest line b.waiting i) (ws : List Waiting) where
-  pub line-held : (words : List ℕ) → ws ≡ slice_set b.waiting i (with_words (λ _. words) (slice_index_or b.waiting i blank)) → record { waiting = ws; below = b.below } ≡ line_taken line words b
-  line-held words e =
-      ap (λ (x : List Waiting). record { waiting = x; below = b.below }) (e ∙ changed-newest line (λ _. words) b.waiting i a n)
-      ∙ sym (cond-true (holds line b.waiting) (held_changed line (λ _. words) b) (come line words (room_made b)) (newest-holds line b.waiting i n))
-
-  pub word_held : (word value : ℕ) → ws ≡ slice_set b.waiting i (with_words (λ words. set words word value) (slice_index_or b.waiting i blank)) → record { waiting = ws; below = b.below } ≡ word_taken line word value b
-  word_held word value e =
-      ap (λ (x : List Waiting). record { waiting = x; below = b.below }) (e ∙ changed-newest line (λ words. set words word value) b.waiting i a n)
-      ∙ sym (cond-true (holds line b.waiting) (held_changed line (λ words. set words word value) b) (record { waiting = b.waiting; below = word_written b.below line word value }) (newest-holds line b.waiting i n))
+pub held_at : (line : ℕ) (b : Buffer) (i : ℕ) → Apart b.waiting → Newest line b.waiting i → (ws : List Waiting) (f : List ℕ → List ℕ) (other : Buffer) → ws ≡ slice_set b.waiting i (with_words f (slice_index_or b.waiting i blank)) → record { waiting = ws; below = b.below } ≡ cond (holds line b.waiting) (held_changed line f b) other
+held_at line b i a n ws f other e =
+    ap (λ (x : List Waiting). record { waiting = x; below = b.below }) (e ∙ changed-newest line f b.waiting i a n)
+    ∙ sym (cond-true (holds line b.waiting) (held_changed line f b) other (newest-holds line b.waiting i n))

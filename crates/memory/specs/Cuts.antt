@@ -1,9 +1,12 @@
--- Words cut into lines: how many there are, what each holds, and what the write of one word changes.
-use Rattle.std.specs.Prelude.{◌≡◌, ℕ, zero, suc, ◌+◌, ◌-◌, ◌*◌, ◌<◌, ◌≤◌, List, [], ◌∷◌, ◌++◌, length, get_or, take, drop, set, slice_index, slice_index_or, slice_set, refl}
+-- Words cut into lines: how many there are, what each holds, and what the write of one word and of one line changes.
+use Rattle.std.specs.Prelude.{◌≡◌, ℕ, zero, suc, ◌+◌, ◌*◌, ◌/◌, ◌<◌, ◌≤◌, List, [], ◌∷◌, ◌++◌, length, take, drop, slice_index_or, slice_set, refl}
 use Rattle.std.proofs.Math.Path.{sym}
 use Rattle.std.proofs.Common.{ap, ◌∙◌, mul-zero, mul-suc, mul-le-mul_left, arith}
-use Rattle.std.proofs.Math.Seq.{take-set-lt}
-use Rattle.std.proofs.lemmas.List.{take-append-drop, append_assoc, append-nil, drop-drop, drop_all, drop_more, length-drop, length-take-le, get_or-drop, get_or-set_same, set-append_right, set-get_or, set-set, take_all, take_more, take_more_set, take-set-le, drop-set-lt, drop-set-add, length-set}
+use Rattle.std.specs.Simd.{first_chunks}
+use Rattle.std.proofs.Math.Seq.{take-add, take-set-lt}
+use Rattle.std.proofs.lemmas.Slice.{take-put_mid, take-put_mid_below, drop-put_mid}
+use borrow.Rule.Slice.PartMut.{put_mid, same_len_mid}
+use Rattle.std.proofs.lemmas.List.{take-append-drop, append_assoc, drop-drop, drop_at, length-drop, length-take-le, take-set-le, drop-set-lt, drop-set-add, length-set}
 use Rattle.memory.specs.Lines.{Shaped, Lawful, word_written, words_in_line}
 use Rattle.memory.specs.Words.{whole, cut, lines_of, spare_of, flat}
 
@@ -38,6 +41,28 @@ module _ (w : ℕ) where
       let up : w * suc i ≤ w * n = mul-le-mul_left w h in
       drop-set-lt (w * n) ws (w * i + j) v (omega (arith, next i))
 
+  pub chunks_are : (n k : ℕ) (ws : List ℕ) → k ≤ n → take k (first_chunks w n ws) ≡ cut w k ws
+  chunks_are n zero ws h = refl
+  chunks_are zero (suc k) ws h = absurd (omega arith)
+  chunks_are (suc n) (suc k) ws h =
+      ap (λ (r : List (List ℕ)). take w ws ∷ r) (chunks_are n k (drop w ws) (omega arith))
+
+  -- past the first line the write of another goes on in the rest
+  drop-put_mid_above : (b : ℕ) (ws v : List ℕ) → w ≤ length ws → drop w (put_mid (w + b) w ws v) ≡ put_mid b w (drop w ws) v
+  drop-put_mid_above b ws v le =
+      rw (take-add w b ws, append_assoc (take w ws) (take b (drop w ws)) (v ++ drop w (drop (w + b) ws)), drop_at (take w ws) (take b (drop w ws) ++ (v ++ drop w (drop (w + b) ws))) w (length-take-le w ws le), drop-drop b w ws)
+
+  pub cut-put_mid : (n i : ℕ) (ws v : List ℕ) → i < n → w * n ≤ length ws → length v ≡ w → cut w n (put_mid (w * i) w ws v) ≡ slice_set (cut w n ws) i v
+  cut-put_mid zero i ws v h le long = absurd (omega arith)
+  cut-put_mid (suc n) zero ws v h le long =
+      rw (mul-zero w, take-put_mid 0 w ws v w (omega arith) (omega arith), drop-put_mid 0 w ws v w (omega arith) (omega arith) long)
+  cut-put_mid (suc n) (suc i) ws v h le long =
+      let fits : w + w * n ≤ length ws = omega (arith, next n) in
+      let up : w * suc i ≤ w * n = mul-le-mul_left w (omega arith) in
+      let d = length-drop w ws in
+      let t = cut-put_mid n i (drop w ws) v (omega arith) (omega arith) long in
+      rw (next i, take-put_mid_below (w + w * i) w ws v w (omega arith) (omega (arith, next i)), drop-put_mid_above (w * i) ws v (omega arith), t)
+
   pub flat-cut : (n : ℕ) (ws : List ℕ) → flat (cut w n ws) ++ drop (w * n) ws ≡ ws
   flat-cut zero ws = rw (mul-zero w)
   flat-cut (suc n) ws =
@@ -57,15 +82,16 @@ module _ (ws : List ℕ) where
   unfolding lines_of
   line-is i h = get_d-cut words_in_line (whole (length ws)) i ws h
 
+  pub lines_are : (k : ℕ) → k ≡ whole (length ws) → take k (first_chunks words_in_line (length ws / words_in_line) ws) ≡ lines_of ws
+  unfolding lines_of
+  lines_are k e = rw e (chunks_are words_in_line (length ws / words_in_line) (whole (length ws)) ws (omega arith))
+
   pub line-long : Shaped (lines_of ws)
   line-long i h =
       let f = whole-fits (length ws) in
       let n = length-lines in
       let d = length-drop (words_in_line * i) ws in
       ap length (line-is i (omega arith)) ∙ length-take-le words_in_line (drop (words_in_line * i) ws) (omega arith)
-
-  pub line-wide : (i : ℕ) → i < whole (length ws) → length (slice_index_or (lines_of ws) i []) ≡ words_in_line
-  line-wide i h = line-long i (omega (arith, length-lines))
 
   pub lawful-lines : Lawful (lines_of ws) (lines_of ws)
   lawful-lines = record { level = refl; most = omega (arith, length-lines); shaped = line-long; bottom = line-long }
@@ -85,36 +111,20 @@ module _ (ws : List ℕ) where
     spare-same =
         rw (length-set ws (words_in_line * i + j) v) (spare-set words_in_line (whole (length ws)) i j v ws h k)
 
--- words copied out of a list from s on, one more each turn
-pub copied_more : (ws vs : List ℕ) (s k v : ℕ) → s + k < length ws → k < length vs → v ≡ slice_index_or ws (s + k) v → take k vs ≡ take k (drop s ws) → take (k + 1) (slice_set vs k v) ≡ take (k + 1) (drop s ws)
-copied_more ws vs s k v h i r e =
-    let d = length-drop s ws in
-    let g : get_or (drop s ws) k v ≡ v = get_or-drop s ws k v ∙ sym r in
-    take_more_set vs k v i
-    ∙ ap (λ l. l ++ v ∷ []) e
-    ∙ sym (take_more (drop s ws) k v (omega arith) ∙ ap (λ x. take k (drop s ws) ++ x ∷ []) g)
+  -- a line that is written over
+  module _ (i : ℕ) (v : List ℕ) (h : i < whole (length ws)) (long : length v ≡ words_in_line) where
+    pub length-put : length (put_mid (words_in_line * i) words_in_line ws v) ≡ length ws
+    length-put =
+        let f = whole-fits (length ws) in
+        let d = length-drop (words_in_line * i) ws in
+        same_len_mid (words_in_line * i) words_in_line ws v (long ∙ sym (length-take-le words_in_line (drop (words_in_line * i) ws) (omega arith)))
 
--- a line overwritten from its first word on, one more each turn
-abbrev pub partly : List ℕ → List ℕ → ℕ → List ℕ
-partly old new k = take k new ++ drop k old
+    pub lines-put : lines_of (put_mid (words_in_line * i) words_in_line ws v) ≡ slice_set (lines_of ws) i v
+    unfolding lines_of
+    lines-put = rw length-put (cut-put_mid words_in_line (whole (length ws)) i ws v h (whole-fits (length ws)) long)
 
-pub partly_more : (old new : List ℕ) (k : ℕ) → k < length old → k < length new → slice_set (partly old new k) k (slice_index new k) ≡ partly old new (k + 1)
-partly_more old new k h i =
-    let t = length-take-le k new (omega arith) in
-    let z : k - k ≡ 0 = omega arith in
-    let d = drop_more old k 0 h in
-    set-append_right (take k new) (drop k old) k k (slice_index new k) t (omega arith)
-    ∙ rw (z, d, take_more new k 0 i) (sym (append_assoc (take k new) (slice_index new k ∷ []) (drop (k + 1) old)))
-
-module _ (lines : List (List ℕ)) (n : ℕ) (new : List ℕ) (h : n < length lines) (long : length (slice_index_or lines n []) ≡ length new) where
-  pub line-more : (k : ℕ) → k < length new → word_written (slice_set lines n (partly (slice_index_or lines n []) new k)) n k (slice_index new k) ≡ slice_set lines n (partly (slice_index_or lines n []) new (k + 1))
-  line-more k i =
-      let old = get_or lines n [] in
-      rw (get_or-set_same lines n (partly old new k) [] h, set-set, partly_more old new k (omega arith) i)
-
-  pub line-none : lines ≡ slice_set lines n (partly (slice_index_or lines n []) new 0)
-  line-none = sym (set-get_or lines n [])
-
-  pub line-all : set lines n (partly (slice_index_or lines n []) new (length new)) ≡ slice_set lines n new
-  line-all =
-      rw (take_all (length new) new (omega arith), drop_all (length new) (slice_index_or lines n []) (omega arith), append-nil)
+    pub spare-put : spare_of (put_mid (words_in_line * i) words_in_line ws v) ≡ spare_of ws
+    unfolding spare_of
+    spare-put =
+        let f = whole-fits (length ws) in
+        rw length-put (drop-put_mid (words_in_line * i) words_in_line ws v (words_in_line * whole (length ws)) (omega arith) (omega arith) long)

@@ -1,9 +1,7 @@
 pub mod Ages
 pub mod Buffers
 pub mod Lines
-pub mod Waits
 pub mod Words
 pub mod Cuts
 pub mod Buffered
 pub mod Covers
-pub mod Tables

@@ -1,6 +1,7 @@
 // The memory below the bus: what any memory means, plain memory over words handed in, and a write buffer over any memory.
 #![tactic(auto)]
 
+mod bounds;
 mod interface;
 mod plain_memory;
 mod queue;

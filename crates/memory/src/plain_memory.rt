@@ -4,6 +4,7 @@ ghost use Rattle.memory.specs.Lines.{words_in_line, word_written};
 ghost use Rattle.memory.specs.Words.{lines_of, spare_of, whole, flat, plain_lines, plain_spare};
 ghost use Rattle.memory.specs.Cuts.{lawful-lines};
 
+use crate::bounds::{check_line, check_word};
 use crate::interface::{Line, Memory, WORDS_IN_LINE};
 use refusal::Refusal;
 
@@ -31,38 +32,24 @@ impl Plain {
         ensures items { result.items ≡ flat (plain_lines self) ++ plain_spare self }
         ensures words { result ≡ self.words }
     {
-        let Plain { words } = self;
-        words
+        self.words
     }
 
-    /// How many lines the words make.
-    fn lines(&self) -> usize
-        ensures lines { result ≡ length (plain_lines self.now) }
-        ensures whole { result ≡ whole (length self.now.words.items) }
+    /// The lines that the words make.
+    fn lines(&self) -> &[Line]
+        ensures { result.now ≡ plain_lines self.now }
     {
-        (self.words.len() / WORDS_IN_LINE).min(MOST_LINES)
-    }
-
-    /// The words of a line that is there.
-    fn line_words(&self, line: usize) -> Line
-        requires { line < whole (length self.now.words.items) }
-        ensures { result ≡ slice_index_or (plain_lines self.now) line [] }
-    {
-        let mut words = [0; WORDS_IN_LINE];
-        let start = WORDS_IN_LINE * line;
-        for word in 0..WORDS_IN_LINE {
-            words[word] = self.words[start + word];
-        }
-        words
+        let (lines, _) = self.words.as_chunks::<WORDS_IN_LINE>();
+        &lines[..lines.len().min(MOST_LINES)]
     }
 
     /// Puts a value into a word that is there.
+    // At its place among all words: a line lent for change by `as_chunks_mut` comes with no promise of the words after it.
     fn put(&mut self, line: usize, word: usize, value: u32)
         requires within { line < whole (length self.old.words.items) }
         requires short { word < words_in_line }
         ensures lines { plain_lines self.new ≡ word_written (plain_lines self.old) line word value }
         ensures spare { plain_spare self.new ≡ plain_spare self.old }
-        ensures same { length self.new.words.items ≡ length self.old.words.items }
     {
         self.words[WORDS_IN_LINE * line + word] = value;
     }
@@ -73,9 +60,8 @@ impl Plain {
         ensures lines { plain_lines self.new ≡ slice_set (plain_lines self.old) line words }
         ensures spare { plain_spare self.new ≡ plain_spare self.old }
     {
-        for word in 0..WORDS_IN_LINE {
-            self.put(line, word, words[word]);
-        }
+        let start = WORDS_IN_LINE * line;
+        self.words[start..start + WORDS_IN_LINE].copy_from_slice(&words);
     }
 }
 
@@ -91,28 +77,21 @@ impl Memory for Plain {
     ghost lawful = { λ m. lawful-lines m.words.items };
 
     fn count(&self) -> usize {
-        self.lines()
+        self.lines().len()
     }
 
     fn read_line(&self, line: usize) -> Result<Line, Refusal> {
-        if line >= self.lines() {
-            return Err(Refusal::BeyondMemory);
-        }
-        Ok(self.line_words(line))
+        self.lines().get(line).copied().ok_or(Refusal::BeyondMemory)
     }
 
     fn write_line(&mut self, line: usize, words: Line) -> Result<(), Refusal> {
-        if line >= self.lines() {
-            return Err(Refusal::BeyondMemory);
-        }
+        check_line(self.count(), line)?;
         self.put_line(line, words);
         Ok(())
     }
 
     fn write_word(&mut self, line: usize, word: usize, value: u32) -> Result<(), Refusal> {
-        if line >= self.lines() || word >= WORDS_IN_LINE {
-            return Err(Refusal::BeyondMemory);
-        }
+        check_word(self.count(), line, word)?;
         self.put(line, word, value);
         Ok(())
     }

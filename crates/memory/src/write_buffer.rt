@@ -2,27 +2,29 @@
 ghost use Rattle.std.specs.Prelude.{◌≡◌, ◌<◌, ◌≤◌, false, [], length, OnOk, slice_set};
 ghost use Rattle.refusal.specs.Refusals.{Answers, Kept};
 ghost use Rattle.memory.specs.Lines.{words_in_line, line_due, word_due, word_written};
-ghost use Rattle.memory.specs.Ages.{Apart, full, holds, most_waiting};
-ghost use Rattle.memory.specs.Waits.{waiting_in};
-ghost use Rattle.memory.specs.Buffers.{buffer, seen, sent_from, come, room_made, line_taken, word_taken, all_sent};
-ghost use Rattle.memory.specs.Buffered.{lawful-buffer};
+ghost use Rattle.memory.specs.Ages.{Apart, Wide, full, holds, most_waiting};
 
-use crate::interface::{Line, Memory, WORDS_IN_LINE};
+use crate::bounds::{check_line, check_word};
+use crate::interface::{Line, Memory};
 use crate::queue::{Queue, Waiting};
 use refusal::Refusal;
 
 /// A memory, and the written lines that have not reached it yet.
+// That each waiting line is whole stands here, and not in the queue's model: a memory's law asks it of every buffer.
 #[derive(Drop)]
 pub struct WriteBuffer<M> {
     below: M,
     queue: Queue,
+    ghost whole: { Wide queue },
 }
 
 impl<M: Memory> WriteBuffer<M> {
+    ghost use Rattle.memory.specs.Buffers.{Steps, buffer, seen, oldest_sent, come, room_made, line_taken, word_taken, all_sent};
+
     /// An empty buffer over a memory.
     pub fn new(below: M) -> WriteBuffer<M>
         ensures below { result.below ≡ below }
-        ensures waiting { waiting_in result.queue ≡ [] }
+        ensures waiting { result.queue ≡ [] }
     {
         WriteBuffer {
             below,
@@ -32,7 +34,7 @@ impl<M: Memory> WriteBuffer<M> {
 
     /// The lines that wait, oldest first.
     pub fn waiting(&self) -> &[Waiting]
-        ensures lines { result.now ≡ waiting_in self.now.queue }
+        ensures lines { result.now ≡ self.now.queue }
         ensures apart { Apart result.now }
         ensures few { length result.now ≤ most_waiting }
     {
@@ -40,23 +42,18 @@ impl<M: Memory> WriteBuffer<M> {
     }
 
     /// The memory below, drained: nothing that waited is lost.
-    pub fn into_below(self) -> M
+    pub fn into_below(mut self) -> M
         ensures lines { M.Memory.lines result ≡ seen (buffer M.Memory.lines self) }
         ensures settled { M.Memory.settled result ≡ seen (buffer M.Memory.lines self) }
         ensures aside { M.Memory.aside result ≡ M.Memory.aside self.below }
     {
-        let mut buffer = self;
-        buffer.send_all();
-        let WriteBuffer { below, queue: _ } = buffer;
-        let mut below = below;
-        below.drain();
-        below
+        self.drain();
+        self.below
     }
 
     /// The oldest waiting line goes down.
     fn send_oldest(&mut self)
-        ensures sent { buffer M.Memory.lines self.new ≡ sent_from (waiting_in self.old.queue) (M.Memory.lines self.old.below) }
-        ensures aside { M.Memory.aside self.new.below ≡ M.Memory.aside self.old.below }
+        ensures { Steps M.Memory.lines M.Memory.aside oldest_sent self.old self.new }
     {
         if let Some(oldest) = self.queue.pop() {
             let _ = self.below.write_line(oldest.line, oldest.words);
@@ -65,19 +62,17 @@ impl<M: Memory> WriteBuffer<M> {
 
     /// Every waiting line goes down, oldest first.
     fn send_all(&mut self)
-        ensures sent { buffer M.Memory.lines self.new ≡ all_sent (buffer M.Memory.lines self.old) }
-        ensures aside { M.Memory.aside self.new.below ≡ M.Memory.aside self.old.below }
+        ensures { Steps M.Memory.lines M.Memory.aside all_sent self.old self.new }
     {
-        while let Some(oldest) = self.queue.pop() {
-            let _ = self.below.write_line(oldest.line, oldest.words);
+        while !self.waiting().is_empty() {
+            self.send_oldest();
         }
     }
 
     /// Of a full buffer the oldest line goes down.
     fn make_room(&mut self)
-        ensures made { buffer M.Memory.lines self.new ≡ room_made (buffer M.Memory.lines self.old) }
-        ensures room { full (waiting_in self.new.queue) ≡ false }
-        ensures aside { M.Memory.aside self.new.below ≡ M.Memory.aside self.old.below }
+        ensures made { Steps M.Memory.lines M.Memory.aside room_made self.old self.new }
+        ensures room { full self.new.queue ≡ false }
     {
         if self.queue.is_full() {
             self.send_oldest();
@@ -86,9 +81,8 @@ impl<M: Memory> WriteBuffer<M> {
 
     /// A line comes as the youngest, once there is room.
     fn enqueue(&mut self, line: usize, words: Line)
-        requires { holds line (waiting_in self.old.queue) ≡ false }
-        ensures come { buffer M.Memory.lines self.new ≡ come line words (room_made (buffer M.Memory.lines self.old)) }
-        ensures aside { M.Memory.aside self.new.below ≡ M.Memory.aside self.old.below }
+        requires { holds line self.old.queue ≡ false }
+        ensures { Steps M.Memory.lines M.Memory.aside (λ b. come line words (room_made b)) self.old self.new }
     {
         self.make_room();
         self.queue.push(line, words);
@@ -96,8 +90,7 @@ impl<M: Memory> WriteBuffer<M> {
 
     /// A line is replaced where it waits, or else comes as the youngest.
     fn take_line(&mut self, line: usize, words: Line)
-        ensures taken { buffer M.Memory.lines self.new ≡ line_taken line words (buffer M.Memory.lines self.old) }
-        ensures aside { M.Memory.aside self.new.below ≡ M.Memory.aside self.old.below }
+        ensures { Steps M.Memory.lines M.Memory.aside (line_taken line words) self.old self.new }
     {
         match self.queue.find(line) {
             Some(place) => self.queue.replace(place, words),
@@ -108,8 +101,7 @@ impl<M: Memory> WriteBuffer<M> {
     /// A word is changed where its line waits, or else goes down.
     fn take_word(&mut self, line: usize, word: usize, value: u32)
         requires { word < words_in_line }
-        ensures taken { buffer M.Memory.lines self.new ≡ word_taken line word value (buffer M.Memory.lines self.old) }
-        ensures aside { M.Memory.aside self.new.below ≡ M.Memory.aside self.old.below }
+        ensures { Steps M.Memory.lines M.Memory.aside (word_taken line word value) self.old self.new }
     {
         match self.queue.find(line) {
             Some(place) => self.queue.change(place, word, value),
@@ -121,6 +113,9 @@ impl<M: Memory> WriteBuffer<M> {
 }
 
 impl<M: Memory> Memory for WriteBuffer<M> {
+    ghost use Rattle.memory.specs.Buffers.{buffer, seen, line_taken, word_taken, all_sent};
+    ghost use Rattle.memory.specs.Buffered.{lawful-buffer};
+
     ghost lines = { λ b. seen (buffer M.Memory.lines b) };
 
     ghost settled = { λ b. M.Memory.settled b.below };
@@ -136,15 +131,14 @@ impl<M: Memory> Memory for WriteBuffer<M> {
     }
 
     fn read_line(&self, line: usize) -> Result<Line, Refusal> {
-        if line >= self.count() {
-            return Err(Refusal::BeyondMemory);
-        }
+        check_line(self.count(), line)?;
         match self.queue.find(line) {
             Some(place) => Ok(self.queue.words(place)),
             None => self.below.read_line(line),
         }
     }
 
+    // From here on what `Memory` promises is said again: a method's own promises, as `taken`, stand in place of those.
     fn write_line(&mut self, line: usize, words: Line) -> Result<(), Refusal>
         ensures answers { Answers (line_due (seen (buffer M.Memory.lines self.old)) line) tt result }
         ensures refused { Kept result (self.new ≡ self.old) }
@@ -152,9 +146,7 @@ impl<M: Memory> Memory for WriteBuffer<M> {
         ensures aside { M.Memory.aside self.new.below ≡ M.Memory.aside self.old.below }
         ensures taken { OnOk result (buffer M.Memory.lines self.new ≡ line_taken line words (buffer M.Memory.lines self.old)) }
     {
-        if line >= self.count() {
-            return Err(Refusal::BeyondMemory);
-        }
+        check_line(self.count(), line)?;
         self.take_line(line, words);
         Ok(())
     }
@@ -166,9 +158,7 @@ impl<M: Memory> Memory for WriteBuffer<M> {
         ensures aside { M.Memory.aside self.new.below ≡ M.Memory.aside self.old.below }
         ensures taken { OnOk result (buffer M.Memory.lines self.new ≡ word_taken line word value (buffer M.Memory.lines self.old)) }
     {
-        if line >= self.count() || word >= WORDS_IN_LINE {
-            return Err(Refusal::BeyondMemory);
-        }
+        check_word(self.count(), line, word)?;
         self.take_word(line, word, value);
         Ok(())
     }

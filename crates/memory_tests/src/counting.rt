@@ -1,7 +1,7 @@
 // A memory that counts the lines written to the one below, and remembers the last four of them.
 ghost use Rattle.std.specs.Prelude.{◌≡◌};
 
-use memory::Memory;
+use memory::{Line, Memory};
 use refusal::Refusal;
 
 #[derive(Drop)]
@@ -60,11 +60,11 @@ impl<M: Memory> Memory for Counting<M> {
         self.below.count()
     }
 
-    fn read_line(&self, line: usize) -> Result<[u32; 4], Refusal> {
+    fn read_line(&self, line: usize) -> Result<Line, Refusal> {
         self.below.read_line(line)
     }
 
-    fn write_line(&mut self, line: usize, words: [u32; 4]) -> Result<(), Refusal> {
+    fn write_line(&mut self, line: usize, words: Line) -> Result<(), Refusal> {
         self.below.write_line(line, words)?;
         self.note(line);
         Ok(())

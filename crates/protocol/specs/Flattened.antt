@@ -2,6 +2,7 @@
 --
 -- rows_answer   what the rows answer for a seat and a cell number
 -- Wide         each row has its sixteen cells
+-- RowOf        a row has what a protocol answers for a seat
 -- Alike        two protocols answer the same for each seat that a bus can have
 use Rattle.std.specs.Prelude.{◌≡◌, ℕ, ◌%◌, ◌<◌, List, [], length, slice_index, slice_index_or}
 
@@ -12,6 +13,11 @@ rows_answer rows seat k = slice_index (slice_index_or rows (seat % 8) []) k
 -- each row has its sixteen cells
 abbrev pub Wide : List (List ℕ) → Type 0
 Wide rows = (seat : ℕ) → seat < 8 → length (slice_index_or rows seat []) ≡ 16
+
+-- the row has what the protocol answers for a seat at each of the sixteen cells
+pub record RowOf (p : ℕ → ℕ → ℕ) (seat : ℕ) (row : List ℕ) : Type 0 where
+  pub sixteen : length row ≡ 16
+  pub each : (k : ℕ) → k < 16 → slice_index row k ≡ p seat k
 
 -- the two answer the same, at every cell number, for each of the eight seats that a bus can have
 abbrev pub Alike : (ℕ → ℕ → ℕ) → (ℕ → ℕ → ℕ) → Type 0

@@ -1,3 +1,4 @@
+pub mod Unknown
 pub mod States
 pub mod Transactions
 pub mod Cells

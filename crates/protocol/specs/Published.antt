@@ -1,5 +1,11 @@
 -- The seven published protocols: their names and their cells, 0 to 15.
-use Rattle.std.specs.Prelude.{ℕ, List, codes}
+--
+-- named     the published protocol of a name, and Unnamed that there is none
+-- NameRead  what reading a name gives
+use Rattle.std.specs.Prelude.{◌≡◌, ◌≢◌, ℕ, cond, List, [], ◌∷◌, codes, Some, None, Option, Result, MatchResult, ok_or}
+use Rattle.std.specs.Str.{bytes_eq}
+use Rattle.refusal.specs.declared.Refusal.{Refusal}
+use Rattle.refusal.specs.declared.Refusal.TheVariants.{ProtocolName}
 use Rattle.protocol.specs.declared.published.Published.{Published}
 use Rattle.protocol.specs.declared.published.Published.TheVariants.{WriteThrough, Msi, WriteOnce, Illinois, Berkeley, Dragon, Firefly}
 
@@ -22,3 +28,21 @@ published_name Illinois = codes "illinois"
 published_name Berkeley = codes "berkeley"
 published_name Dragon = codes "dragon"
 published_name Firefly = codes "firefly"
+
+-- the protocol among these whose name the word is
+abbrev pub named_among : List Published → List ℕ → Option Published
+named_among [] w = None
+named_among (p ∷ ps) w = cond (bytes_eq w (published_name p)) (Some p) (named_among ps w)
+
+-- the published protocol whose name the word is
+abbrev pub named : List ℕ → Option Published
+named w = named_among (WriteThrough ∷ Msi ∷ WriteOnce ∷ Illinois ∷ Berkeley ∷ Dragon ∷ Firefly ∷ []) w
+
+-- no published protocol has this name
+abbrev pub Unnamed : List ℕ → Type 0
+Unnamed w = (p : Published) → published_name p ≢ w
+
+-- reading a name gives the protocol that has it, and else the refusal of an unknown name
+pub record NameRead (w : List ℕ) (r : Result Published Refusal) : Type 0 where
+  pub value : r ≡ ok_or (named w) ProtocolName
+  pub names : MatchResult r (λ p. published_name p ≡ w) (λ e. Unnamed w)

@@ -1,7 +1,10 @@
 // The sixteen cells of a protocol table.
-ghost use Rattle.std.specs.Prelude.{◌≡◌, ◌<◌};
+ghost use Rattle.std.specs.Prelude.{◌≡◌};
 ghost use Rattle.protocol.specs.Cells.{allowed, cell_set};
 ghost use Rattle.protocol.specs.CellNames.{cell_number, cell_at, cell_use};
+ghost use Rattle.protocol.specs.Unknown.{Reads};
+
+use crate::unknown::Unknown;
 
 /// What a cell of a protocol table decides.
 #[derive(Clone, Copy, PartialEq, Eq, Debug)]
@@ -44,6 +47,27 @@ impl Cell {
     /// How many cells a table has.
     pub const COUNT: u8 = 16;
 
+    /// The cells, in the order of a table.
+    pub const ALL: [Cell; Cell::COUNT as usize] = [
+        Cell::WriteAtInvalid,
+        Cell::WriteAtShared,
+        Cell::WriteAtOwned,
+        Cell::FilledAlone,
+        Cell::UpdatedAlone,
+        Cell::ThroughUpdatedAloneAtShared,
+        Cell::ThroughUpdatedAloneAtOwned,
+        Cell::ThroughInvalidatedAtShared,
+        Cell::ThroughInvalidatedAtOwned,
+        Cell::ReadHeardAtShared,
+        Cell::ReadHeardAtExclusive,
+        Cell::ReadHeardAtOwned,
+        Cell::ReadHeardAtModified,
+        Cell::UpdateHeardAtShared,
+        Cell::UpdateHeardAtOwned,
+        Cell::ThroughUpdateHeardAtShared,
+    ];
+
+    // By name and not by `From`: a call says that the byte is a place and no cell's content.
     /// The cell's place in a table.
     pub fn number(self) -> u8
         ensures { result ≡ cell_number self }
@@ -51,32 +75,8 @@ impl Cell {
         self as u8
     }
 
-    /// The cell at a place of a table.
-    pub fn at(number: u8) -> Option<Cell>
-        ensures { result ≡ cell_at number }
-    {
-        match number {
-            0 => Some(Cell::WriteAtInvalid),
-            1 => Some(Cell::WriteAtShared),
-            2 => Some(Cell::WriteAtOwned),
-            3 => Some(Cell::FilledAlone),
-            4 => Some(Cell::UpdatedAlone),
-            5 => Some(Cell::ThroughUpdatedAloneAtShared),
-            6 => Some(Cell::ThroughUpdatedAloneAtOwned),
-            7 => Some(Cell::ThroughInvalidatedAtShared),
-            8 => Some(Cell::ThroughInvalidatedAtOwned),
-            9 => Some(Cell::ReadHeardAtShared),
-            10 => Some(Cell::ReadHeardAtExclusive),
-            11 => Some(Cell::ReadHeardAtOwned),
-            12 => Some(Cell::ReadHeardAtModified),
-            13 => Some(Cell::UpdateHeardAtShared),
-            14 => Some(Cell::UpdateHeardAtOwned),
-            15 => Some(Cell::ThroughUpdateHeardAtShared),
-            _ => None,
-        }
-    }
-
     /// What the cell is for, in words.
+    // A text and no `Display`: callers pad it, and choose between two of them.
     pub fn purpose(self) -> &'static str
         ensures { result.now ≡ cell_use self }
     {
@@ -126,24 +126,21 @@ impl Cell {
     pub fn allows(self, byte: u8) -> bool
         ensures { result ≡ allowed (cell_number self) byte }
     {
-        match self {
-            Cell::WriteAtInvalid => matches!(byte, b'1' | b'2' | b'6'),
-            Cell::WriteAtShared | Cell::WriteAtOwned => matches!(byte, b'3' | b'4' | b'5' | b'6'),
-            Cell::FilledAlone
-            | Cell::ThroughUpdatedAloneAtShared
-            | Cell::ThroughInvalidatedAtShared => matches!(byte, b'S' | b'E'),
-            Cell::UpdatedAlone
-            | Cell::ThroughUpdatedAloneAtOwned
-            | Cell::ThroughInvalidatedAtOwned => matches!(byte, b'O' | b'M'),
-            Cell::ReadHeardAtOwned | Cell::ReadHeardAtModified => matches!(
-                byte,
-                b'I' | b'S' | b'O'
-            ),
-            Cell::ReadHeardAtShared
-            | Cell::ReadHeardAtExclusive
-            | Cell::UpdateHeardAtShared
-            | Cell::UpdateHeardAtOwned
-            | Cell::ThroughUpdateHeardAtShared => matches!(byte, b'I' | b'S'),
-        }
+        self.set().as_bytes().contains(&byte)
+    }
+}
+
+/// The cell at a place of a table.
+impl TryFrom<u8> for Cell {
+    type Error = Unknown;
+
+    ghost try_from_gives = { Reads cell_at };
+
+    fn try_from(number: u8) -> Result<Cell, Unknown> {
+        let place = usize::from(number);
+        Cell::ALL
+            .get(place)
+            .copied()
+            .ok_or(Unknown { byte: number })
     }
 }

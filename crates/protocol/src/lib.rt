@@ -2,6 +2,7 @@
 #![tactic(auto)]
 
 mod cell;
+mod cells;
 mod flattened;
 mod interface;
 mod published;
@@ -9,6 +10,7 @@ mod split;
 mod state;
 mod table;
 mod transaction;
+mod unknown;
 
 pub use cell::Cell;
 pub use flattened::Flattened;
@@ -18,3 +20,4 @@ pub use split::Split;
 pub use state::State;
 pub use table::Table;
 pub use transaction::Transaction;
+pub use unknown::Unknown;

@@ -1,9 +1,12 @@
 // The seven published protocols.
 ghost use Rattle.std.specs.Prelude.{◌≡◌, slice_index};
-ghost use Rattle.protocol.specs.Published.{published_cells, published_name};
+ghost use Rattle.protocol.specs.Published.{published_cells, published_name, NameRead};
 ghost use Rattle.std.proofs.Common.{rules};
 
+use crate::cells::byte_of;
 use crate::interface::Protocol;
+use refusal::Refusal;
+use std::str::FromStr;
 
 /// A protocol from the literature, followed by every seat.
 #[derive(Clone, Copy, PartialEq, Eq, Debug)]
@@ -34,6 +37,7 @@ impl Published {
     }
 
     /// The protocol's name.
+    // A text and no `Display`: callers pad it, and choose between two of them.
     pub fn name(self) -> &'static str
         ensures { result.now ≡ published_name self }
     {
@@ -49,13 +53,32 @@ impl Published {
     }
 }
 
+/// The published protocol that has a name.
+impl FromStr for Published {
+    type Err = Refusal;
+
+    ghost from_str_gives = { NameRead };
+
+    fn from_str(name: &str) -> Result<Published, Refusal> {
+        match name {
+            "writethrough" => Ok(Published::WriteThrough),
+            "msi" => Ok(Published::Msi),
+            "writeonce" => Ok(Published::WriteOnce),
+            "illinois" => Ok(Published::Illinois),
+            "berkeley" => Ok(Published::Berkeley),
+            "dragon" => Ok(Published::Dragon),
+            "firefly" => Ok(Published::Firefly),
+            _ => Err(Refusal::ProtocolName),
+        }
+    }
+}
+
 impl Protocol for Published {
     ghost cells = { λ p seat k. slice_index (published_cells p) k };
 
     ghost lawful = { Prim.search rules };
 
     fn cell(&self, _seat: usize, cell: u8) -> u8 {
-        let cells = self.cells();
-        if cell < 16 { cells[cell as usize] } else { 0 }
+        byte_of(self.cells(), cell)
     }
 }

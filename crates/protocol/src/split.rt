@@ -14,6 +14,19 @@ pub struct Split<P, Q> {
     pub second: Q,
 }
 
+impl<P, Q> Split<P, Q> {
+    /// Seats below `below` follow the first protocol, the others the second.
+    pub fn new(first: P, below: usize, second: Q) -> Split<P, Q>
+        ensures { result ≡ record { first = first; below = below; second = second } }
+    {
+        Split {
+            first,
+            below,
+            second,
+        }
+    }
+}
+
 impl<P: Protocol, Q: Protocol> Protocol for Split<P, Q> {
     ghost cells = { λ s seat k. (if ltb seat s.below then P.Protocol.cells s.first seat k else Q.Protocol.cells s.second seat k) };
 

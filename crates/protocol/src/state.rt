@@ -1,6 +1,9 @@
 // The five states of a copy, their letters and their attributes.
 ghost use Rattle.std.specs.Prelude.{◌≡◌};
 ghost use Rattle.protocol.specs.States.{valid, exclusive, owned, letter, letter_state, state_name};
+ghost use Rattle.protocol.specs.Unknown.{Reads};
+
+use crate::unknown::Unknown;
 
 /// What a cache may do with its copy of a line.
 #[derive(Clone, Copy, PartialEq, Eq, Debug)]
@@ -22,32 +25,24 @@ impl State {
     pub fn is_valid(self) -> bool
         ensures { result ≡ valid self }
     {
-        match self {
-            State::Invalid => false,
-            State::Shared | State::Exclusive | State::Owned | State::Modified => true,
-        }
+        self != State::Invalid
     }
 
     /// No other cache holds the line.
     pub fn is_exclusive(self) -> bool
         ensures { result ≡ exclusive self }
     {
-        match self {
-            State::Exclusive | State::Modified => true,
-            State::Invalid | State::Shared | State::Owned => false,
-        }
+        matches!(self, State::Exclusive | State::Modified)
     }
 
     /// The cache supplies the line and has to write it back.
     pub fn is_owned(self) -> bool
         ensures { result ≡ owned self }
     {
-        match self {
-            State::Owned | State::Modified => true,
-            State::Invalid | State::Shared | State::Exclusive => false,
-        }
+        matches!(self, State::Owned | State::Modified)
     }
 
+    // By name and by `match`: a case's own number is no byte, so a letter there would be `b'I' as isize`.
     /// The letter that stands for the state in a table and in a report.
     pub fn letter(self) -> u8
         ensures { result ≡ letter self }
@@ -61,21 +56,8 @@ impl State {
         }
     }
 
-    /// The state that a letter stands for.
-    pub fn from_letter(letter: u8) -> Option<State>
-        ensures { result ≡ letter_state letter }
-    {
-        match letter {
-            b'I' => Some(State::Invalid),
-            b'S' => Some(State::Shared),
-            b'E' => Some(State::Exclusive),
-            b'O' => Some(State::Owned),
-            b'M' => Some(State::Modified),
-            _ => None,
-        }
-    }
-
     /// The state's name.
+    // A text and no `Display`: callers pad it, and choose between two of them.
     pub fn name(self) -> &'static str
         ensures { result.now ≡ state_name self }
     {
@@ -85,6 +67,24 @@ impl State {
             State::Exclusive => "Exclusive",
             State::Owned => "Owned",
             State::Modified => "Modified",
+        }
+    }
+}
+
+/// The state that a letter stands for.
+impl TryFrom<u8> for State {
+    type Error = Unknown;
+
+    ghost try_from_gives = { Reads letter_state };
+
+    fn try_from(letter: u8) -> Result<State, Unknown> {
+        match letter {
+            b'I' => Ok(State::Invalid),
+            b'S' => Ok(State::Shared),
+            b'E' => Ok(State::Exclusive),
+            b'O' => Ok(State::Owned),
+            b'M' => Ok(State::Modified),
+            byte => Err(Unknown { byte }),
         }
     }
 }

@@ -1,12 +1,15 @@
 // The seven bus transactions, their codes, mnemonics and names.
 ghost use Rattle.std.specs.Prelude.{◌≡◌};
 ghost use Rattle.protocol.specs.Transactions.{code, mnemonic, transaction_name, digit_transaction};
+ghost use Rattle.protocol.specs.Unknown.{Reads};
+
+use crate::unknown::Unknown;
 
 /// What a cache asks of the bus.
 #[derive(Clone, Copy, PartialEq, Eq, Debug)]
 pub enum Transaction {
     /// Read a line that others may keep.
-    ReadShared,
+    ReadShared = 1,
     /// Read a line and invalidate the other copies.
     ReadInvalidate,
     /// Invalidate the other copies.
@@ -22,35 +25,12 @@ pub enum Transaction {
 }
 
 impl Transaction {
+    // By name and not by `From`: a transaction has a digit too, which is another byte.
     /// The transaction's code, 1 to 7.
     pub fn code(self) -> u8
         ensures { result ≡ code self }
     {
-        match self {
-            Transaction::ReadShared => 1,
-            Transaction::ReadInvalidate => 2,
-            Transaction::Invalidate => 3,
-            Transaction::Update => 4,
-            Transaction::ThroughUpdate => 5,
-            Transaction::ThroughInvalidate => 6,
-            Transaction::WriteBack => 7,
-        }
-    }
-
-    /// The transaction that a digit stands for.
-    pub fn from_digit(digit: u8) -> Option<Transaction>
-        ensures { result ≡ digit_transaction digit }
-    {
-        match digit {
-            b'1' => Some(Transaction::ReadShared),
-            b'2' => Some(Transaction::ReadInvalidate),
-            b'3' => Some(Transaction::Invalidate),
-            b'4' => Some(Transaction::Update),
-            b'5' => Some(Transaction::ThroughUpdate),
-            b'6' => Some(Transaction::ThroughInvalidate),
-            b'7' => Some(Transaction::WriteBack),
-            _ => None,
-        }
+        self as u8
     }
 
     /// The two letters that stand for the transaction in a report.
@@ -69,6 +49,7 @@ impl Transaction {
     }
 
     /// The transaction's name.
+    // A text and no `Display`: callers pad it, and choose between two of them.
     pub fn name(self) -> &'static str
         ensures { result.now ≡ transaction_name self }
     {
@@ -80,6 +61,26 @@ impl Transaction {
             Transaction::ThroughUpdate => "through with update",
             Transaction::ThroughInvalidate => "through with invalidate",
             Transaction::WriteBack => "write back",
+        }
+    }
+}
+
+/// The transaction that a digit stands for.
+impl TryFrom<u8> for Transaction {
+    type Error = Unknown;
+
+    ghost try_from_gives = { Reads digit_transaction };
+
+    fn try_from(digit: u8) -> Result<Transaction, Unknown> {
+        match digit {
+            b'1' => Ok(Transaction::ReadShared),
+            b'2' => Ok(Transaction::ReadInvalidate),
+            b'3' => Ok(Transaction::Invalidate),
+            b'4' => Ok(Transaction::Update),
+            b'5' => Ok(Transaction::ThroughUpdate),
+            b'6' => Ok(Transaction::ThroughInvalidate),
+            b'7' => Ok(Transaction::WriteBack),
+            byte => Err(Unknown { byte }),
         }
     }
 }

@@ -1,10 +1,12 @@
 -- The refusal table, and what a promise says of a call that may be refused.
 --
 -- told      each case of `Refusal`: its number and the values it carries
+-- sentence  each case in words
 -- Answers   a call answers this value, unless this refusal is due
 -- Answered  a call answers a value of which this holds, unless this refusal is due
 -- Kept      a refused call leaves this as it was
-use Rattle.std.specs.Prelude.{◌≡◌, ℕ, List, [], ◌∷◌, Some, None, Ok, Err, Option, Result}
+use Rattle.std.specs.Prelude.{◌≡◌, ℕ, List, [], ◌∷◌, ◌++◌, Some, None, Ok, Err, codes, Option, Result}
+use Rattle.std.specs.Fmt.{decimal}
 use Rattle.refusal.specs.declared.Refusal.{Refusal}
 use Rattle.refusal.specs.declared.Refusal.TheVariants.{Seats, Sets, TableLength, CellOutside, CallLimit, NoSeat, BeyondMemory, RecordPlaces, LineForm, NumberTooLarge, ProtocolName, TextMemory, TextLength}
 
@@ -45,6 +47,22 @@ first (x ∷ xs) = Some x
 -- the cell that a refusal tells: only the fourth tells a value, and it is the cell
 abbrev pub cell_of : Refusal → Option ℕ
 cell_of e = first (told e).values
+
+-- what a refusal says, in a short sentence
+abbrev pub sentence : Refusal → List ℕ
+sentence Seats = codes "the seats are not one to eight"
+sentence Sets = codes "the sets are not 1, 2, 4, 8, 16, 32 or 64"
+sentence TableLength = codes "a table has sixteen bytes"
+sentence (CellOutside cell) = codes "cell " ++ decimal cell ++ codes " of the table lies outside its set"
+sentence CallLimit = codes "the run has answered as many calls as it may"
+sentence NoSeat = codes "the seat is not on the bus"
+sentence BeyondMemory = codes "the address, line or word lies beyond memory"
+sentence RecordPlaces = codes "an access may need more places for bus records"
+sentence LineForm = codes "the line has the wrong form"
+sentence NumberTooLarge = codes "the number does not fit 32 bits"
+sentence ProtocolName = codes "no protocol has this name"
+sentence TextMemory = codes "the memory of a text is not 1 to 1,024 lines"
+sentence TextLength = codes "the text is longer than 65,536 bytes"
 
 -- a call answers the value a exactly when no refusal is due, and else the one that is due
 abbrev pub Answers : {A : Type 0} → Option Told → A → Result A Refusal → Type 0

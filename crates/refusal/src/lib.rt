@@ -1,8 +1,11 @@
 // The numbered refusals: one case for each condition under which a call answers no value.
 #![tactic(auto)]
 
-ghost use Rattle.std.specs.Prelude.{◌≡◌, ℕ};
-ghost use Rattle.refusal.specs.Refusals.{told, number, cell_of};
+ghost use Rattle.std.specs.Prelude.{◌≡◌, ℕ, Some};
+ghost use Rattle.refusal.specs.Refusals.{told, number, cell_of, sentence};
+
+use std::error::Error;
+use std::fmt;
 
 /// Why a call was refused.
 #[derive(Clone, Copy, PartialEq, Eq, Debug)]
@@ -36,6 +39,7 @@ pub enum Refusal {
 }
 
 impl Refusal {
+    // A `match`: the fourth case carries a cell, so the cases have no numbers of their own.
     /// The number in the refusal table.
     pub fn number(&self) -> u8
         ensures { result ≡ number self.now }
@@ -67,3 +71,30 @@ impl Refusal {
         }
     }
 }
+
+impl fmt::Display for Refusal {
+    ghost output = { λ e. Some (sentence e) };
+
+    fn fmt<W: fmt::Write>(&self, f: &mut fmt::Formatter<W>) -> fmt::Result {
+        match self {
+            Refusal::Seats => f.write_str("the seats are not one to eight"),
+            Refusal::Sets => f.write_str("the sets are not 1, 2, 4, 8, 16, 32 or 64"),
+            Refusal::TableLength => f.write_str("a table has sixteen bytes"),
+            Refusal::CellOutside { cell } => write!(
+                f,
+                "cell {cell} of the table lies outside its set"
+            ),
+            Refusal::CallLimit => f.write_str("the run has answered as many calls as it may"),
+            Refusal::NoSeat => f.write_str("the seat is not on the bus"),
+            Refusal::BeyondMemory => f.write_str("the address, line or word lies beyond memory"),
+            Refusal::RecordPlaces => f.write_str("an access may need more places for bus records"),
+            Refusal::LineForm => f.write_str("the line has the wrong form"),
+            Refusal::NumberTooLarge => f.write_str("the number does not fit 32 bits"),
+            Refusal::ProtocolName => f.write_str("no protocol has this name"),
+            Refusal::TextMemory => f.write_str("the memory of a text is not 1 to 1,024 lines"),
+            Refusal::TextLength => f.write_str("the text is longer than 65,536 bytes"),
+        }
+    }
+}
+
+impl Error for Refusal {}

@@ -1,14 +1,13 @@
 -- The report of a text, byte for byte; the contract of `report` cites it.
 --
--- access_text   an access as its line writes it
 -- step_line     `ACCESS = ANSWER STATES TRANSACTIONS`; of a settle `s = LINES`
 -- stop_line     `stop N LAYER line L byte K`
 -- close_line    `close = LINES`
 -- tally_line    `tally` and each number behind its name
 -- memory_lines  `m LINE W0 W1 W2 W3` for each line that is not all zero, upward
 -- printed      the whole report
-use Rattle.std.specs.Prelude.{ℕ, suc, Bool, true, cond, ◌&&◌, List, [], ◌∷◌, ◌++◌, Some, None, codes, decimal, Option, ◌==◌}
-use Rattle.std.specs.List.{flat_map}
+use Rattle.std.specs.Prelude.{ℕ, suc, Bool, cond, List, [], ◌∷◌, ◌++◌, Some, None, codes, decimal, Option, Result, Ok, Err, ◌==◌}
+use Rattle.std.specs.List.{flat_map, list_all}
 use Rattle.protocol.specs.declared.state.State.{State}
 use Rattle.protocol.specs.States.{letter}
 use Rattle.protocol.specs.Transactions.{mnemonic}
@@ -17,18 +16,9 @@ use Rattle.rules.specs.declared.tally.Tally.{Tally}
 use Rattle.rules.specs.Systems.{Closing}
 use Rattle.trace.specs.declared.access.Access.{Access}
 use Rattle.trace.specs.declared.access.Access.TheVariants.{Read, Write, Flush, Settle}
-use Rattle.trace.specs.declared.layer.Layer.{Layer}
-use Rattle.trace.specs.declared.layer.Layer.TheVariants as layer
-use Rattle.trace.specs.Faults.{layer_of}
+use Rattle.trace.specs.Faults.{layer_of, layer_name}
+use Rattle.trace.specs.Written.{access_text}
 use Rattle.account.specs.Accounts.{Performed, Halt, Outcome, refused, ran}
-
--- an access as its line writes it, without its end
-abbrev pub access_text : Access → List ℕ
-access_text (Read seat address) = codes "r " ++ (decimal seat ++ (codes " " ++ decimal address))
-access_text (Write seat address value) =
-    codes "w " ++ (decimal seat ++ (codes " " ++ (decimal address ++ (codes " " ++ decimal value))))
-access_text (Flush seat address) = codes "f " ++ (decimal seat ++ (codes " " ++ decimal address))
-access_text Settle = codes "s"
 
 -- one letter for each seat
 abbrev pub letters : List State → List ℕ
@@ -58,17 +48,15 @@ step_line p =
 abbrev pub step_lines : List Performed → List ℕ
 step_lines steps = flat_map step_line steps
 
--- the name of a layer
-abbrev pub layer_name : Layer → List ℕ
-layer_name layer.Number = codes "number"
-layer_name layer.Line = codes "line"
-layer_name layer.Model = codes "model"
-layer_name layer.Setup = codes "setup"
-
 -- what stopped the text: the number, its layer, the line from 1, the byte from 0
 abbrev pub stop_line : Halt → List ℕ
 stop_line h =
     codes "stop " ++ (decimal h.told.number ++ (codes " " ++ (layer_name (layer_of h.told.number) ++ (codes " line " ++ (decimal h.line ++ (codes " byte " ++ (decimal h.byte ++ codes "\n")))))))
+
+-- the text of either
+abbrev pub either_text : {X E : Type 0} → (X → List ℕ) → (E → List ℕ) → Result X E → List ℕ
+either_text f g (Ok x) = f x
+either_text f g (Err e) = g e
 
 -- what stopped the accesses, if anything did
 abbrev pub stop_line_if : Option Halt → List ℕ
@@ -107,8 +95,7 @@ tally_line t = access_counts t ++ (transaction_counts t ++ copy_counts t)
 
 -- every word is 0
 abbrev pub all_zero : List ℕ → Bool
-all_zero [] = true
-all_zero (w ∷ ws) = w == 0 && all_zero ws
+all_zero words = list_all (λ w. w == 0) words
 
 -- each word behind a space
 abbrev pub words_text : List ℕ → List ℕ

@@ -3,6 +3,7 @@
 
 mod closing;
 mod memory_lines;
+mod shown;
 mod step;
 mod stop;
 mod text;

@@ -37,10 +37,7 @@ impl From<Option<usize>> for Supplier {
 
     /// The owner's seat, or else memory.
     fn from(owner: Option<usize>) -> Supplier {
-        match owner {
-            Some(seat) => Supplier::Seat(seat),
-            None => Supplier::Memory,
-        }
+        owner.map_or(Supplier::Memory, Supplier::Seat)
     }
 }
 

@@ -10,7 +10,7 @@ use Rattle.rules.specs.Transactions.{Protocol}
 use Rattle.rules.specs.Machines.{Machine}
 use Rattle.rules.specs.Systems.{System, Outcome, weight, due_in, reached, reported, answer_of, ended, outcome_if, outcome}
 use Rattle.bus.specs.Machines.{machine_of}
-use Rattle.run.specs.declared.reply.Reply.{Reply}
+use Rattle.bus.specs.declared.reply.Reply.{Reply}
 use Rattle.run.specs.declared.run.Run.{Run}
 use Rattle.run.specs.Views.{system_of}
 use Rattle.run.specs.Calls.{reply_of, Called}

@@ -27,6 +27,7 @@ begins cell law agreed lines shaped =
     opening cell law (listed-some agreed.sets agreed.listed) (omega arith) lines (record { lines = refl; words = shaped })
 
 -- empty caches and a blank tally are a run just opened
-pub as-opened : (cell : Protocol) (agreed : Agreed) (lines : List (List ℕ)) (caches : Caches) (tally : Tally) → caches_of caches ≡ replicate agreed.seats (fresh agreed.sets 1) → tally ≡ blank
-    → ◌≡◌ {A = System} (record { cell = cell; caches = caches_of caches; memory = lines; tally = tally; answered = 0 }) (opened cell agreed.seats agreed.sets lines)
-as-opened cell agreed lines caches tally e t = cc
+pub as-opened : (cell given : Protocol) (agreed : Agreed) (lines held : List (List ℕ)) (caches : Caches) (tally : Tally)
+    → given ≡ cell → held ≡ lines → caches_of caches ≡ replicate agreed.seats (fresh agreed.sets 1) → tally ≡ blank
+    → ◌≡◌ {A = System} (record { cell = given; caches = caches_of caches; memory = held; tally = tally; answered = 0 }) (opened cell agreed.seats agreed.sets lines)
+as-opened cell given agreed lines held caches tally p m e t = cc

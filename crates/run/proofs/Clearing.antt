@@ -1,13 +1,13 @@
 -- What holds where every check of a call has passed.
 use Rattle.std.proofs.Common.{◌≡◌, ℕ, ◌/◌, ◌<◌, ◌≤◌, length, None, arith}
 use Rattle.std.proofs.lemmas.Bool.Decides.{nat_tests}
-use Rattle.rules.specs.Systems.{System, due_in}
-use Rattle.rules.specs.declared.call.Call.TheVariants.{Settle}
+use Rattle.rules.specs.Systems.{System}
+use Rattle.run.specs.Views.{look_due}
 use Rattle.run.specs.Calls.{access_due}
 
--- a call that is not refused for the limit is one of those that a run answers
-pub below-limit : (s : System) → due_in 4 s Settle ≡ None → s.answered < 1000000
-below-limit s e = grind (arith, nat_tests)
+-- a seat that may be looked at is on the bus
+pub looked-on : (s : System) (seat line : ℕ) → look_due s seat line ≡ None → seat < length s.caches
+looked-on s seat line e = grind (arith, nat_tests)
 
 module _ (s : System) (seat address places : ℕ) (e : access_due s seat address places ≡ None) where
   pub calls-left : s.answered < 1000000

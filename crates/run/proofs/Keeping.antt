@@ -8,7 +8,7 @@ use Rattle.rules.specs.Systems.{System, due, due_in, outcome_if, outcome}
 use Rattle.rules.specs.Ledgers.{Ledger, entered}
 use Rattle.rules.specs.Coherence.{Since, calling, Equals, Promise}
 use Rattle.rules.proofs.Promises.{since-promised}
-use Rattle.run.specs.declared.reply.Reply.{Reply}
+use Rattle.bus.specs.declared.reply.Reply.{Reply}
 use Rattle.run.specs.Views.{sizes}
 use Rattle.run.specs.Histories.{Owed, Keeps}
 use Rattle.run.specs.Calls.{reply_of}

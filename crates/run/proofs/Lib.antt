@@ -1,5 +1,6 @@
 mod Clearing
 mod Filling
+mod Lending
 mod Keeping
 mod Answering
 mod Beginning

@@ -1,19 +1,18 @@
 -- A list of calls made one after another: the history and the ledger, step by step.
-use Rattle.std.proofs.Common.{◌≡◌, ℕ, zero, suc, ◌+◌, ◌-◌, ◌<◌, min, ltb, List, [], ◌∷◌, length, get_or, take, set, Some, None, Option, Result, sym, refl, ap, ◌∙◌, subst, add-one, arith, length-take, below_more}
+use Rattle.std.proofs.Common.{◌≡◌, ℕ, zero, suc, ◌+◌, ◌<◌, min, ltb, List, [], ◌∷◌, length, get_or, take, set, Some, None, Option, Result, sym, refl, ap, ◌∙◌, subst, add-one, arith, below_more}
 use lib.ListN.{length-map}
 use Rattle.std.proofs.lemmas.Bool.Decides.{nat_tests}
 use Rattle.refusal.specs.declared.Refusal.{Refusal}
 use Rattle.refusal.specs.Refusals.{Told, Answers}
 use Rattle.rules.specs.declared.call.Call.{Call}
 use Rattle.rules.specs.declared.call.Call.TheVariants.{Read, Write, Flush, Settle}
-use Rattle.rules.specs.declared.record.Record.{Record}
 use Rattle.rules.specs.Systems.{System, Outcome, due_in, outcome_if, outcome, after}
 use Rattle.rules.specs.Ledgers.{Ledger, entered, ledger_after}
-use Rattle.run.specs.declared.reply.Reply.{Reply}
+use Rattle.bus.specs.declared.reply.Reply.{Reply}
 use Rattle.run.specs.declared.run.Run.{Run}
 use Rattle.run.specs.Views.{system_of}
 use Rattle.run.specs.declared.step.Step.{Step}
-use Rattle.run.specs.Calls.{reply_of, Called}
+use Rattle.run.specs.Calls.{reply_of, lent}
 use Rattle.run.specs.Replayed.{calls_of, call_at, replies_of, Replied}
 
 -- one call more
@@ -29,47 +28,32 @@ ledger-next seats addresses (c ∷ cs) zero l h = refl
 ledger-next seats addresses (c ∷ cs) (suc k) l h = ledger-next seats addresses cs k (entered seats addresses c l) (omega arith)
 
 -- four places of many serve as well
-pub lent_alike : (n p : ℕ) (xs : List Record) → length xs ≡ 4 → n ≡ min p 4 → ltb (length (take (n - 0) xs)) 4 ≡ ltb p 4
-lent_alike n p xs four e = let h = length-take (n - 0) xs in grind (arith, nat_tests)
+few-alike : (p : ℕ) → ltb (min p 4) 4 ≡ ltb p 4
+few-alike p = grind (arith, nat_tests)
 
--- the same call with so many places
-abbrev pub placed : Call → ℕ → Call
-placed (Read seat address _) p = Read seat address p
-placed (Write seat address value _) p = Write seat address value p
-placed (Flush seat address _) p = Flush seat address p
-placed Settle p = Settle
+module _ (s : System) where
+  pub due-lent : (call : Call) → due_in 4 s (lent 4 call) ≡ due_in 4 s call
+  due-lent (Read seat address p) = let e = few-alike p in cc
+  due-lent (Write seat address value p) = let e = few-alike p in cc
+  due-lent (Flush seat address p) = let e = few-alike p in cc
+  due-lent Settle = refl
 
-module _ (s : System) (p q : ℕ) (e : ltb q 4 ≡ ltb p 4) where
-  pub due-alike : (call : Call) → due_in 4 s (placed call q) ≡ due_in 4 s (placed call p)
-  due-alike (Read seat address n) = cc
-  due-alike (Write seat address value n) = cc
-  due-alike (Flush seat address n) = cc
-  due-alike Settle = refl
-
-  same-but-places : (o : Option Told) (call : Call) → outcome_if 4 o (placed call q) s ≡ outcome_if 4 o (placed call p) s
-  same-but-places None (Read seat address n) = refl
-  same-but-places None (Write seat address value n) = refl
-  same-but-places None (Flush seat address n) = refl
+  same-but-places : (o : Option Told) (call : Call) → outcome_if 4 o (lent 4 call) s ≡ outcome_if 4 o call s
+  same-but-places None (Read seat address p) = refl
+  same-but-places None (Write seat address value p) = refl
+  same-but-places None (Flush seat address p) = refl
   same-but-places None Settle = refl
   same-but-places (Some t) call = refl
 
-  pub outcome-alike : (call : Call) → outcome 4 (placed call q) s ≡ outcome 4 (placed call p) s
+  pub outcome-lent : (call : Call) → outcome 4 (lent 4 call) s ≡ outcome 4 call s
   unfolding outcome
-  outcome-alike call = ap (λ (o : Option Told). outcome_if 4 o (placed call q) s) (due-alike call) ∙ same-but-places (due_in 4 s (placed call p)) call
+  outcome-lent call = ap (λ (o : Option Told). outcome_if 4 o (lent 4 call) s) (due-lent call) ∙ same-but-places (due_in 4 s call) call
 
--- a call made with four places of many is the call that was asked for
-module _ {P M A : Type 0} (cells : P → ℕ → ℕ → ℕ) (lines : M → List (List ℕ)) (aside : M → A) (before after : Run P M) (given left : List Record) (r : Result Reply Refusal) where
-  pub remade : (call : Call) (p q : ℕ) → ltb q 4 ≡ ltb p 4 → Called cells lines aside (placed call q) before after given left r
-      → (asked : Call) → asked ≡ placed call p
-      → Answers (due_in 4 (system_of cells lines before) asked) (reply_of (outcome 4 asked (system_of cells lines before))) r
-      × (system_of cells lines after ≡ (outcome 4 asked (system_of cells lines before)).system)
-  remade call p q e h asked is =
-      let s = system_of cells lines before in
-      let d : due_in 4 s (placed call q) ≡ due_in 4 s asked = due-alike s p q e call ∙ ap (due_in 4 s) (sym is) in
-      let o : outcome 4 (placed call q) s ≡ outcome 4 asked s = outcome-alike s p q e call ∙ ap (λ (x : Call). outcome 4 x s) (sym is) in (
-        subst (λ (x : Option Told). Answers x (reply_of (outcome 4 asked s)) r) d (subst (λ (y : Outcome). Answers (due_in 4 s (placed call q)) (reply_of y) r) o h.replies),
-        h.system ∙ ap (λ (y : Outcome). y.system) o,
-      )
+  -- so a call that is lent four answers as one that is lent all that it brings
+  pub answers-lent : (call : Call) (r : Result Reply Refusal) → Answers (due_in 4 s (lent 4 call)) (reply_of (outcome 4 (lent 4 call) s)) r → Answers (due_in 4 s call) (reply_of (outcome 4 call s)) r
+  answers-lent call r a =
+      subst (λ (x : Option Told). Answers x (reply_of (outcome 4 call s)) r) (due-lent call)
+      (subst (λ (y : Outcome). Answers (due_in 4 s (lent 4 call)) (reply_of y) r) (outcome-lent call) a)
 
 -- after k calls of the steps given, from a run at the start
 pub record Progress {P M A : Type 0} (cells : P → ℕ → ℕ → ℕ) (lines : M → List (List ℕ)) (aside : M → A) (start run : Run P M) (given left : List Step) (k : ℕ) : Type 0 where

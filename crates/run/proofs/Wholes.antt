@@ -12,7 +12,7 @@ use Rattle.rules.specs.Ledgers.{Ledger, begun, entered}
 use Rattle.rules.specs.Coherence.{Sizes, Since, Promise}
 use Rattle.rules.proofs.Promises.{since-promised, since-calls}
 use Rattle.caches.specs.declared.agreed.Agreed.{Agreed}
-use Rattle.run.specs.declared.reply.Reply.{Reply}
+use Rattle.bus.specs.declared.reply.Reply.{Reply}
 use Rattle.run.specs.declared.step.Step.{Step}
 use Rattle.run.specs.Views.{sizes}
 use Rattle.run.specs.Histories.{Owed}

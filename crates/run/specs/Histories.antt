@@ -13,7 +13,7 @@ use Rattle.rules.specs.declared.call.Call.TheVariants.{Read, Write, Flush, Settl
 use Rattle.rules.specs.Systems.{System, due}
 use Rattle.rules.specs.Ledgers.{Ledger, entered}
 use Rattle.rules.specs.Coherence.{Sizes, addresses, Since, Equals, Promise}
-use Rattle.run.specs.declared.reply.Reply.{Reply}
+use Rattle.bus.specs.declared.reply.Reply.{Reply}
 use Rattle.run.specs.Views.{sizes}
 
 -- what an answer owes the ledger: a read gives the word at its address, a write its value; after a settle memory has every word

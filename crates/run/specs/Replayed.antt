@@ -21,7 +21,7 @@ use Rattle.rules.specs.Systems.{System, state_on, opened, due, due_in, outcome, 
 use Rattle.rules.specs.Ledgers.{Ledger, begun, entered, ledger_after}
 use Rattle.rules.specs.Coherence.{Sizes, addresses}
 use Rattle.caches.specs.declared.agreed.Agreed.{Agreed}
-use Rattle.run.specs.declared.reply.Reply.{Reply}
+use Rattle.bus.specs.declared.reply.Reply.{Reply}
 use Rattle.run.specs.declared.step.Step.{Step}
 use Rattle.run.specs.declared.closed.Closed.{Closed}
 use Rattle.run.specs.Views.{sizes}

@@ -4,14 +4,13 @@
 mod closed;
 mod place;
 mod replays;
-mod reply;
 mod run;
 mod step;
 mod ticket;
 
+pub use bus::Reply;
 pub use closed::Closed;
 pub use replays::replay;
-pub use reply::Reply;
 pub use run::{CALL_LIMIT, PLACES_NEEDED, Run};
 pub use step::Step;
 pub use ticket::Ticket;

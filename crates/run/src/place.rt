@@ -10,12 +10,11 @@ pub(crate) struct Place {
     pub word: usize,
 }
 
-impl Place {
+impl From<u32> for Place {
+    ghost from_gives = { λ address place. place ≡ record { line = address / 4; word = address % 4 } };
+
     /// The place of a word address.
-    pub(crate) fn of(address: u32) -> Place
-        ensures line { result.line ≡ address / 4 }
-        ensures word { result.word ≡ address % 4 }
-    {
+    fn from(address: u32) -> Place {
         Place {
             line: address as usize / WORDS_IN_LINE,
             word: address as usize % WORDS_IN_LINE,

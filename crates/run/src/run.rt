@@ -4,6 +4,7 @@ ghost use Rattle.bus.specs.Totals.{total};
 
 use bus::Bus;
 
+// No Model: the system that a run stands for holds its protocol's cells, a function, which no model's value may hold.
 /// Caches on a bus over a memory, and how many calls were answered. A run is never let go: closing takes it.
 pub struct Run<P, M> {
     bus: Bus<P, M>,

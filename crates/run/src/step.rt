@@ -1,5 +1,5 @@
 // A call to be replayed, and its reply.
-use crate::reply::Reply;
+use bus::Reply;
 use refusal::Refusal;
 use rules::Call;
 

@@ -10,6 +10,7 @@ use std::test::Fail;
 // Makes so many writes, in turn by two seats and over sixteen addresses, and counts those answered.
 fn write_many<P: Protocol, M: Memory>(run: &mut Run<P, M>, count: u32) -> u32 {
     let mut answered: u32 = 0;
+    // A loop and no filter, since each write changes the run.
     for i in 0..count {
         let mut records = record_places();
         if run.write(i & 1, i & 15, i, &mut records).is_ok() {

@@ -3,14 +3,29 @@ use crate::places::record_places;
 use caches::Agreed;
 use memory::{Memory, Plain};
 use protocol::{Protocol, Published, Split};
-use run::{Closed, Run};
+use refusal::Refusal;
+use run::{Closed, Reply, Run};
 use std::test::Fail;
 
+// Four seats in turn.
+type Four = Split<Split<Published, Published>, Split<Published, Published>>;
+
 // What was answered: the words in turn, and how many records were made.
-#[derive(Clone, Copy, PartialEq, Eq, Debug)]
+#[derive(Clone, Copy, PartialEq, Eq, Debug, Default)]
 struct Sums {
     checksum: u64,
     records: u64,
+}
+
+impl Sums {
+    // An access was answered.
+    fn note(&mut self, reply: Reply) {
+        self.checksum = self
+            .checksum
+            .wrapping_mul(31)
+            .wrapping_add(u64::from(reply.value));
+        self.records = self.records.wrapping_add(reply.records as u64);
+    }
 }
 
 // The next of a sequence of pseudo-random numbers.
@@ -21,75 +36,54 @@ fn next(x: u64) -> u64 {
 }
 
 // One access: the seat by bits 0 to 2, the address by 8 to 19, a write by bit 24, its value by bits 32 to 63.
-fn access<P: Protocol, M: Memory>(run: &mut Run<P, M>, x: u64, sums: Sums) -> Sums {
+fn access<P: Protocol, M: Memory>(run: &mut Run<P, M>, x: u64) -> Result<Reply, Refusal> {
     let mut records = record_places();
     let seat = (x & 7) as u32;
     let address = ((x >> 8) & 4095) as u32;
-    let reply = if (x >> 24) & 1 == 1 {
+    if (x >> 24) & 1 == 1 {
         run.write(seat, address, (x >> 32) as u32, &mut records)
     } else {
         run.read(seat, address, &mut records)
-    };
-    match reply {
-        Ok(reply) => Sums {
-            checksum: sums
-                .checksum
-                .wrapping_mul(31)
-                .wrapping_add(u64::from(reply.value)),
-            records: sums.records.wrapping_add(reply.records as u64),
-        },
-        Err(_) => sums,
     }
 }
 
 // So many accesses in turn.
 fn access_many<P: Protocol, M: Memory>(run: &mut Run<P, M>, count: u32) -> Sums {
-    let mut sums = Sums {
-        checksum: 0,
-        records: 0,
-    };
-    let mut x: u64 = 88172645463325252;
+    let mut sums = Sums::default();
+    let mut x = 88172645463325252;
+    // A loop and no chain, since each access changes the run.
     for _ in 0..count {
         x = next(x);
-        sums = access(run, x, sums);
+        if let Ok(reply) = access(run, x) {
+            sums.note(reply);
+        }
     }
     sums
+}
+
+// busbench has the same seats and numbers: a test keeps inputs of its own, so that the benchmark may change.
+// The seven published protocols in turn, and the first once more.
+fn mixture() -> Split<Four, Four> {
+    Split::new(
+        Split::new(
+            Split::new(Published::WriteThrough, 1, Published::Msi),
+            2,
+            Split::new(Published::WriteOnce, 3, Published::Illinois),
+        ),
+        4,
+        Split::new(
+            Split::new(Published::Berkeley, 5, Published::Dragon),
+            6,
+            Split::new(Published::Firefly, 7, Published::WriteThrough),
+        ),
+    )
 }
 
 #[test]
 fn a_million_accesses(rt: HostRuntime) -> Result<(), Fail> {
     let words = vec![in rt.alloc(); 0u32; 4096]?;
     let agreed = Agreed::agree(8, 64)?;
-    let protocol = Split {
-        first: Split {
-            first: Split {
-                first: Published::WriteThrough,
-                below: 1,
-                second: Published::Msi,
-            },
-            below: 2,
-            second: Split {
-                first: Published::WriteOnce,
-                below: 3,
-                second: Published::Illinois,
-            },
-        },
-        below: 4,
-        second: Split {
-            first: Split {
-                first: Published::Berkeley,
-                below: 5,
-                second: Published::Dragon,
-            },
-            below: 6,
-            second: Split {
-                first: Published::Firefly,
-                below: 7,
-                second: Published::WriteThrough,
-            },
-        },
-    };
-    let (mut run, ticket) = Run::open(agreed, protocol, Plain::new(words));
+    let (mut run, ticket) = Run::open(agreed, mixture(), Plain::new(words));
     let sums = access_many(&mut run, 1_000_000);
     let Closed {
         memory: _,

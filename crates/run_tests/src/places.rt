@@ -1,19 +1,12 @@
 // Record places to lend.
 ghost use Rattle.std.specs.Prelude.{◌≡◌, length};
 
-use protocol::Transaction;
-use rules::{Record, Supplier};
+use rules::Record;
+use run::PLACES_NEEDED;
 
 /// Four record places that nothing was written to.
-pub fn record_places() -> [Record; 4]
+pub fn record_places() -> [Record; PLACES_NEEDED]
     ensures { length result ≡ 4 }
 {
-    [Record {
-        transaction: Transaction::WriteBack,
-        seat: 0,
-        line: 0,
-        shared: false,
-        reflected: false,
-        supplier: Supplier::Nobody,
-    }; 4]
+    [Record::UNMADE; PLACES_NEEDED]
 }

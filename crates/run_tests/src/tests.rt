@@ -1,40 +1,33 @@
 // Runs on examples.
+use crate::places::record_places;
 use caches::Agreed;
 use memory::Plain;
-use protocol::{Published, Transaction};
+use protocol::Published;
 use refusal::Refusal;
-use rules::{Call, Record, Supplier};
+use rules::Call;
 use run::{Closed, Reply, Run, Step, replay};
 use std::test::Fail;
 
+// A call to be replayed.
+fn step(call: Call) -> Step {
+    Step { call, reply: None }
+}
+
 fn read(seat: u32, address: u32) -> Step {
-    Step {
-        call: Call::Read {
-            seat,
-            address,
-            places: 4,
-        },
-        reply: None,
-    }
+    step(Call::Read {
+        seat,
+        address,
+        places: 4,
+    })
 }
 
 fn write(seat: u32, address: u32, value: u32) -> Step {
-    Step {
-        call: Call::Write {
-            seat,
-            address,
-            value,
-            places: 4,
-        },
-        reply: None,
-    }
-}
-
-fn settle() -> Step {
-    Step {
-        call: Call::Settle,
-        reply: None,
-    }
+    step(Call::Write {
+        seat,
+        address,
+        value,
+        places: 4,
+    })
 }
 
 fn answered(value: u32, records: usize) -> Option<Result<Reply, Refusal>> {
@@ -51,14 +44,13 @@ fn the_first_session_replayed(rt: HostRuntime) -> Result<(), Fail> {
         write(1, 1, 7),
         read(0, 1),
         write(0, 8, 5),
-        settle(),
+        step(Call::Settle),
     ];
-    let closed = replay(agreed, Published::Illinois, memory, &mut steps);
     let Closed {
         memory,
         tally,
         written,
-    } = closed;
+    } = replay(agreed, Published::Illinois, memory, &mut steps);
     let words = memory.into_words();
     assert_eq!(rt; steps[0].reply, answered(0, 1));
     assert_eq!(rt; steps[2].reply, answered(7, 1));
@@ -86,15 +78,7 @@ fn the_first_session_replayed(rt: HostRuntime) -> Result<(), Fail> {
 fn refused_calls_in_their_order(rt: HostRuntime) -> Result<(), Fail> {
     let agreed = Agreed::agree(2, 1)?;
     let memory = Plain::new([0u32; 8].to_vec(rt.alloc())?);
-    let blank = Record {
-        transaction: Transaction::WriteBack,
-        seat: 0,
-        line: 0,
-        shared: false,
-        reflected: false,
-        supplier: Supplier::Nobody,
-    };
-    let mut records = [blank; 4];
+    let mut records = record_places();
     let (mut run, ticket) = Run::open(agreed, Published::Msi, memory);
     let last = run.read(0, 7, &mut records);
     let beyond = run.read(0, 8, &mut records);

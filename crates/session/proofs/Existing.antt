@@ -14,7 +14,7 @@ use Rattle.trace.specs.Texts.{open_stop, bus_stop}
 use Rattle.account.specs.Accounts.{Performed, Outcome, refused, ran}
 use Rattle.session.specs.Plays.{call_of, performed_on, Plays, ends, unsound, refuses, performs}
 use Rattle.session.specs.Texts.{Gives, stopped, played, halt_at, begun_by, OneOutcome}
-use Rattle.session.proofs.Playing.{gives-alike}
+use Rattle.session.proofs.Unique.{gives-alike}
 use Rattle.session.proofs.Performing.{line-further}
 
 -- some way on from a place and a system

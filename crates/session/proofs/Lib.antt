@@ -1,4 +1,4 @@
-pub mod Playing
+pub mod Unique
 pub mod Owing
 pub mod Looking
 pub mod Zeros

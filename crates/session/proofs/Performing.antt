@@ -1,6 +1,8 @@
 -- One access performed, as the rules have it.
-use Rattle.std.proofs.Common.{◌≡◌, ℕ, ◌*◌, ◌/◌, ◌<◌, List, [], ◌∷◌, ◌++◌, map, length, take, drop, Some, None, Ok, Err, Option, sym, refl, ap, ◌∙◌, subst, arith, length-append, length-drop}
+use Rattle.std.proofs.Common.{◌≡◌, ℕ, ◌*◌, ◌<◌, List, [], ◌∷◌, length, take, drop, Some, None, Ok, Err, Option, Result, sym, refl, ap, ◌∙◌, subst, arith, length-append, length-drop}
 use lib.Seq.{take-append_seam}
+use mathlib.Core.Logic.{∥∥₁_elim, ∥∥₁_map}
+use Rattle.std.proofs.Props.{props}
 use Rattle.refusal.specs.declared.Refusal.{Refusal}
 use Rattle.refusal.specs.Refusals.{Told}
 use Rattle.refusal.specs.Refusals as refusals
@@ -11,47 +13,23 @@ use Rattle.rules.specs.Ledgers.{entered}
 use Rattle.rules.specs.Coherence.{Since, calling, addresses}
 use Rattle.rules.proofs.Calls.{access-fine}
 use Rattle.rules.proofs.Promises.{since-promised}
-use Rattle.run.specs.declared.reply.Reply.{Reply}
+use Rattle.bus.specs.declared.reply.Reply.{Reply}
 use Rattle.run.specs.Views.{sizes}
 use Rattle.trace.specs.declared.access.Access.{Access}
 use Rattle.trace.specs.declared.access.Access.TheVariants.{Read, Write, Flush, Settle}
 use Rattle.trace.specs.declared.fault.LineFault.{LineFault}
 use Rattle.trace.specs.declared.fault.TraceFault.{TraceFault}
 use Rattle.trace.specs.declared.fault.TraceFault.TheVariants.{Line, Refused}
-use Rattle.trace.specs.Faults.{Stop, trace_stop}
+use Rattle.trace.specs.Faults.{trace_stop}
 use Rattle.trace.specs.Lines.{access_at}
 use Rattle.trace.specs.Texts.{NextRead}
 use Rattle.trace.specs.Written.{written}
 use Rattle.trace.proofs.Accessing.{access-grammar}
 use Rattle.account.specs.declared.step.Step.{Step}
 use Rattle.account.specs.Accounts.{Performed, performed}
-use Rattle.session.specs.Plays.{call_of, states_on, states_of, Plays, ends, unsound, refuses, performs, History}
-use Rattle.session.specs.declared.turn.Turn.{Turn}
-use Rattle.session.specs.declared.turn.Turn.TheVariants.{Performed as Turned, Ended, Stopped}
-use Rattle.session.specs.Steps.{Makes, Made, MadeNext, Led, Next}
-
--- the access is of the line of an address
-abbrev pub OnLine : Access → ℕ → Type 0
-OnLine (Read seat a) address = address ≡ a
-OnLine (Write seat a value) address = address ≡ a
-OnLine (Flush seat a) address = address ≡ a
-OnLine Settle address = ⊥
-
-states-on : (a : Access) (address : ℕ) (s : System) → OnLine a address → states_on (address / 4) s ≡ states_of a s
-states-on (Read seat b) address s e = ap (λ (x : ℕ). states_on (x / 4) s) e
-states-on (Write seat b value) address s e = ap (λ (x : ℕ). states_on (x / 4) s) e
-states-on (Flush seat b) address s e = ap (λ (x : ℕ). states_on (x / 4) s) e
-states-on Settle address s e = absurd e
-
--- an answered access is of a line of memory
-line_of : (a : Access) (address : ℕ) (s : System) → OnLine a address → due_in 4 s (call_of a) ≡ None → address / 4 < length s.memory
-line_of (Read seat b) address s e d =
-    let f = access-fine s.answered 1 (length s.caches) (length s.memory * 4) seat b 4 d in omega (arith, f)
-line_of (Write seat b value) address s e d =
-    let f = access-fine s.answered 1 (length s.caches) (length s.memory * 4) seat b 4 d in omega (arith, f)
-line_of (Flush seat b) address s e d =
-    let f = access-fine s.answered 1 (length s.caches) (length s.memory * 4) seat b 4 d in omega (arith, f)
-line_of Settle address s e d = absurd e
+use Rattle.session.specs.Plays.{call_of, states_of, Plays, ends, unsound, refuses, performs, History}
+use Rattle.session.proofs.Making.{Makes}
+use Rattle.session.specs.Steps.{IsWithin, Made, MadeNext, Led, Next}
 
 -- a history goes on with every call
 pub history-on : (a : Access) {before after : System} → after ≡ (outcome 4 (call_of a) before).system → History before → History after
@@ -63,6 +41,9 @@ history-on a e h = record {
   since = subst (λ (s : System). Since (sizes h.seats h.sets h.lines) s (entered h.seats (addresses (sizes h.seats h.sets h.lines)) (call_of a) h.ledger)) (sym e) (calling h.since (call_of a));
 }
 
+pub history-kept : (a : Access) {before after : System} → after ≡ (outcome 4 (call_of a) before).system → ∥ History before ∥₁ → ∥ History after ∥₁
+history-kept a e h = ∥∥₁_map h (history-on a e)
+
 -- memory keeps its lines
 lines-kept : {before after : System} → (h : History before) → (k : History after) → h.lines ≡ k.lines → length after.memory ≡ length before.memory
 lines-kept {before} {after} h k e =
@@ -70,13 +51,33 @@ lines-kept {before} {after} h k e =
     ∙ (sym e ∙ sym (since-promised (sizes h.seats h.sets h.lines) before h.ledger h.since).sized.lines)
 
 -- the line of an answered access can be looked at afterwards
-pub line-below : (a : Access) (address : ℕ) {before after : System} → OnLine a address → History before → due_in 4 before (call_of a) ≡ None
-    → after ≡ (outcome 4 (call_of a) before).system → address / 4 < length after.memory
+line-below : (a : Access) {before after : System} → History before → due_in 4 before (call_of a) ≡ None
+    → after ≡ (outcome 4 (call_of a) before).system → IsWithin a after
 unfolding history-on
-line-below a address {before} {after} on h d e =
-    let k = lines-kept h (history-on a e h) refl in
-    let b = line_of a address before on d in
-    omega arith
+line-below (Read seat b) {before} h d e =
+    let k = lines-kept h (history-on (Read seat b) e h) refl in
+    let f = access-fine before.answered 1 (length before.caches) (length before.memory * 4) seat b 4 d in
+    omega (arith, f)
+line-below (Write seat b value) {before} h d e =
+    let k = lines-kept h (history-on (Write seat b value) e h) refl in
+    let f = access-fine before.answered 1 (length before.caches) (length before.memory * 4) seat b 4 d in
+    omega (arith, f)
+line-below (Flush seat b) {before} h d e =
+    let k = lines-kept h (history-on (Flush seat b) e h) refl in
+    let f = access-fine before.answered 1 (length before.caches) (length before.memory * 4) seat b 4 d in
+    omega (arith, f)
+line-below Settle h d e = tt
+
+-- there is one way for it to lie in memory
+within-prop : (a : Access) (s : System) → IsProp (IsWithin a s)
+within-prop (Read seat b) s = hlevel props
+within-prop (Write seat b value) s = hlevel props
+within-prop (Flush seat b) s = hlevel props
+within-prop Settle s = hlevel props
+
+pub within-after : (a : Access) {before after : System} → ∥ History before ∥₁ → due_in 4 before (call_of a) ≡ None
+    → after ≡ (outcome 4 (call_of a) before).system → IsWithin a after
+within-after a {before} {after} h d e = ∥∥₁_elim h (within-prop a after) (λ k. line-below a k d e)
 
 -- an answered call as an access performed
 module _ (a : Access) (before after : System) (given left : List Record) (reply : Reply) (m : Makes (call_of a) before after given left (Ok reply)) where
@@ -98,10 +99,6 @@ module _ (a : Access) (before after : System) (given left : List Record) (reply 
     );
     system = m.system;
   }
-
-  pub made-on : (address : ℕ) → OnLine a address → (step : Step)
-      → performed step ≡ record { access = a; answer = reply.value; states = states_on (address / 4) after; records = take reply.records left } → Made a before after (Ok step)
-  made-on address on step p = made_by (states_on (address / 4) after) (states-on a address after on) step p
 
 -- a written line has at least one byte
 some_byte : (a : Access) → 0 < length (written a)
@@ -150,42 +147,12 @@ module _ (t : List ℕ) (i : ℕ) (before after : System) where
       subst (λ (x : System). Plays t i before [] (Some (trace_stop f)) x) (sym s)
       (subst (λ (x : TraceFault). Plays t i before [] (Some (trace_stop x)) before) (sym p) (refuses a j (refusals.told e) h r m.answers))
 
--- one more access performed stands in front of whatever follows
-pub went_on :
-    (t t₀ : List ℕ) (i i₀ j : ℕ) (before after begin : System) (step : Step) (items more : List Step) → t ≡ t₀ → Led t i before step j after → more ≡ items ++ (step ∷ [])
-    → ((ps : List Performed) (stop : Option Stop) (last : System) → Plays t₀ i before ps stop last → Plays t₀ i₀ begin (map performed items ++ ps) stop last)
-    → (ps : List Performed) (stop : Option Stop) (last : System) → Plays t₀ j after ps stop last → Plays t₀ i₀ begin (map performed more ++ ps) stop last
-went_on t t₀ i i₀ j before after begin step items more e l m f ps stop last p =
-    let q = subst (λ (x : List ℕ). Plays x i before (performed step ∷ ps) stop last) e (l.leads ps stop last (subst (λ (x : List ℕ). Plays x j after ps stop last) (sym e) p)) in
-    subst (λ (x : List Performed). Plays t₀ i₀ begin x stop last) (sym (ap (λ (x : List Step). map performed x ++ ps) m ∙ spread items)) (f (performed step ∷ ps) stop last q)
-  where
-    spread : (xs : List Step) → map performed (xs ++ (step ∷ [])) ++ ps ≡ map performed xs ++ (performed step ∷ ps)
-    spread [] = refl
-    spread (x ∷ xs) = ap (λ (ys : List Performed). performed x ∷ ys) (spread xs)
-
--- an answered access, by the case of it that was matched
-pub made_in :
-    (a b : Access) (before after : System) (given left : List Record) (reply : Reply) → Makes (call_of a) before after given left (Ok reply) → a ≡ b
-    → (states : List State) → states ≡ states_of b after → (step : Step)
-    → performed step ≡ record { access = b; answer = reply.value; states = states; records = take reply.records left } → Made a before after (Ok step)
-made_in a b before after given left reply m e states s step p =
-    subst (λ (x : Access). Made x before after (Ok step)) (sym e)
-    (made_by b before after given left reply (subst (λ (x : Access). Makes (call_of x) before after given left (Ok reply)) e m) states s step p)
-
 module _ (t : List ℕ) (i : ℕ) (before after : System) (j byte : ℕ) where
   -- the next line, behind which the text goes on, ends or stops
-  pub next_of : (next : Option Access) (r : Turn) → byte ≡ i → NextRead t i (Ok next) j → MadeNext next byte before after r → Next t i before r j after
-  next_of None (Turned step) b e m = absurd m
-  next_of None Ended b e m = ended t i before after e.0 m
-  next_of None (Stopped f) b e m = absurd m
-  next_of (Some a) (Turned step) b e m = led t i before after a j step e.0 e.1 m
-  next_of (Some a) Ended b e m = absurd m
-  next_of (Some a) (Stopped f) b e m = refused-at t i before after a j f m.0 e.0 e.1 (m.1 ∙ ap (λ (x : ℕ). Refused x m.0) b) m.2
-
-  pub history-of : (next : Option Access) (r : Turn) → MadeNext next byte before after r → History before → History after
-  history-of None (Turned step) m h = absurd m
-  history-of None Ended m h = subst (λ (s : System). History s) (sym m) h
-  history-of None (Stopped f) m h = absurd m
-  history-of (Some a) (Turned step) m h = history-on a m.system h
-  history-of (Some a) Ended m h = absurd m
-  history-of (Some a) (Stopped f) m h = history-on a m.2.system h
+  pub next_of : (next : Option Access) (r : Result (Option Step) TraceFault) → byte ≡ i → NextRead t i (Ok next) j → MadeNext next byte before after r → Next t i before r j after
+  next_of None (Ok None) b e m = ended t i before after e.0 m
+  next_of None (Ok (Some step)) b e m = absurd m
+  next_of None (Err f) b e m = absurd m
+  next_of (Some a) (Ok None) b e m = absurd m
+  next_of (Some a) (Ok (Some step)) b e m = led t i before after a j step e.0 e.1 m
+  next_of (Some a) (Err f) b e m = refused-at t i before after a j f m.0 e.0 e.1 (m.1 ∙ ap (λ (x : ℕ). Refused x m.0) b) m.2

@@ -20,12 +20,11 @@ use Rattle.trace.specs.Lines.{bus_at}
 use Rattle.trace.specs.Setups.{word_in, Divided}
 use Rattle.trace.specs.Texts.{open_stop, Opened}
 use Rattle.account.specs.declared.account.Ran.{Ran}
-use Rattle.account.specs.declared.account.Account.TheVariants as account
 use Rattle.account.specs.declared.stop.Stop.{Stop as Halting}
 use Rattle.account.specs.Accounts.{Performed, Halt, refused, ran, performed, halted, closing_of, outcome_of}
 use Rattle.session.specs.Plays.{Plays}
 use Rattle.session.specs.Texts.{halt_at, word_cell, cells_with, zeros, begun_by, Gives, stopped, played, divided, setup_cells, Played, sizes_by, Squares, Accounted}
-use Rattle.session.proofs.Playing.{gives-alike}
+use Rattle.session.proofs.Unique.{gives-alike}
 use Rattle.session.proofs.Owing.{owes-each}
 
 -- a text that is refused before its first access
@@ -70,7 +69,7 @@ module _ (t : List ℕ) (i : ℕ) (setup : Setup) (r : Ran) (fine : open_stop t 
       opened-alike (cells-alike t (word_in t o.line.first) setup.first o.line.second setup.division o.given.first.cells o.given.second)
       o.given.seats o.given.sets o.given.lines
 
-  gave : Gives t (outcome_of (account.Ran r))
+  gave : Gives t (outcome_of (Ok r))
   gave =
       subst (λ (c : Closing). Gives t (ran (map performed (vec_items r.steps)) (option_map halted r.stop) c)) (sym p.closes)
       (subst (λ (h : Option Halt). Gives t (ran (map performed (vec_items r.steps)) h (closed p.last))) (sym p.halts)
@@ -83,7 +82,7 @@ module _ (t : List ℕ) (i : ℕ) (setup : Setup) (r : Ran) (fine : open_stop t 
       (λ (n : ℕ). Since (sizes setup.agreed.seats setup.agreed.sets n) (opened (setup_cells setup) setup.agreed.seats setup.agreed.sets (zeros setup.lines)) (begun 4 (zeros setup.lines)))
       (length-replicate setup.lines (replicate 4 0)) p.since
 
-  squares : (line : BusLine) (j : ℕ) → bus_at t 0 ≡ Ok (line, j) → Squares (sizes_by line) (map performed (vec_items r.steps)) (closing_of r)
+  squares : (line : BusLine) (j : ℕ) → bus_at t 0 ≡ Ok (line, j) → Squares (sizes_by line) (map performed (vec_items r.steps)) (closing_of r.closed)
   squares line j e =
       let w : ◌≡◌ {A = BusLine × ℕ} (o.line, i) (line, j) = let h = o.reads in cc in
       let l : o.line ≡ line = ap (λ (x : BusLine × ℕ). x.0) w in
@@ -92,7 +91,7 @@ module _ (t : List ℕ) (i : ℕ) (setup : Setup) (r : Ran) (fine : open_stop t 
       (subst (λ (z : Sizes). Squares z (map performed (vec_items r.steps)) (closed p.last))
       (sizes-alike o.given.seats o.given.sets o.given.lines ∙ ap sizes_by l) q)
 
-  pub played-account : Accounted t (outcome_of (account.Ran r))
+  pub played-account : Accounted t (outcome_of (Ok r))
   played-account = record { gives = gave; only = λ x k. gives-alike t k gave; keeps = squares }
 
 -- the same of a reader at the beginning of the text
@@ -102,7 +101,7 @@ stopped-from t u n f h p q e k =
     stopped-account t f h (subst (λ (x : List ℕ). open_stop x 0 ≡ Some (trace_stop f)) p (subst (λ (x : ℕ). open_stop u x ≡ Some (trace_stop f)) q e)) k
 
 pub played-from : (t u : List ℕ) (n i : ℕ) (setup : Setup) (r : Ran) → u ≡ t → n ≡ 0 → open_stop u n ≡ None → Opened u n i setup
-    → Played t i setup.agreed.seats setup.agreed.sets (setup_cells setup) (zeros setup.lines) r → Accounted t (outcome_of (account.Ran r))
+    → Played t i setup.agreed.seats setup.agreed.sets (setup_cells setup) (zeros setup.lines) r → Accounted t (outcome_of (Ok r))
 played-from t u n i setup r p q e o k =
     played-account t i setup r
     (subst (λ (x : List ℕ). open_stop x 0 ≡ None) p (subst (λ (x : ℕ). open_stop u x ≡ None) q e))

@@ -86,7 +86,7 @@ pub record Played (t : List ℕ) (i seats sets : ℕ) (cell : Protocol) (memory 
   pub last : System
   pub plays : Plays t i (opened cell seats sets memory) (map performed (vec_items r.steps)) stop last
   pub halts : option_map halted r.stop ≡ option_map (halt_at t) stop
-  pub closes : closing_of r ≡ closed last
+  pub closes : closing_of r.closed ≡ closed last
   -- the ledger of memory's words begins beside the run
   pub since : Since (sizes seats sets (length memory)) (opened cell seats sets memory) (begun 4 memory)
 

@@ -3,18 +3,14 @@
 
 ghost use Rattle.session.specs.Texts.{OneOutcome};
 
-mod accesses;
 mod memory_words;
-mod perform;
+mod playing;
 mod states;
 mod text;
-mod turn;
 
 pub use text::play;
 
 /// Every text gives one outcome, and only one.
-pub fn one_outcome() -> u8
+pub fn one_outcome()
     ensures { OneOutcome }
-{
-    0
-}
+{}

@@ -6,13 +6,13 @@ ghost use Rattle.trace.specs.Faults.{trace_stop};
 ghost use Rattle.account.specs.Accounts.{halted, outcome_of};
 ghost use Rattle.session.specs.Texts.{halt_at, zeros, setup_cells, Played, Accounted};
 
-use crate::accesses::perform_all;
 use crate::memory_words::zero_memory;
+use crate::playing::Playing;
 use account::{Account, Ran, Stop};
 use caches::Agreed;
 use memory::Plain;
 use protocol::{Protocol, Split};
-use run::{Closed, Run};
+use run::Run;
 use std::alloc::{AllocError, Global};
 use trace::{Reader, Setup, TraceFault, line_of};
 
@@ -21,9 +21,10 @@ pub fn play(heap: Global, text: &[u8]) -> Result<Account, AllocError>
     ensures { IfOk result (λ a. Accounted text.now (outcome_of a)) }
 {
     let mut reader = Reader::over(text);
+    // A `match`: through a closure it is not known what the run of the setup gives.
     match reader.setup() {
-        Ok(setup) => Ok(Account::Ran(play_setup(heap, text, reader, setup)?)),
-        Err(fault) => Ok(Account::Refused(stop_at(text, fault))),
+        Ok(setup) => Ok(Ok(play_setup(heap, text, reader, setup)?)),
+        Err(fault) => Ok(Err(stop_at(text, fault))),
     }
 }
 
@@ -34,16 +35,6 @@ fn stop_at(text: &[u8], fault: TraceFault) -> Stop
     Stop {
         fault,
         line: line_of(text, fault.byte()),
-    }
-}
-
-// The same, where there is a fault.
-fn stop_if(text: &[u8], fault: Option<TraceFault>) -> Option<Stop>
-    ensures { option_map halted result ≡ option_map (halt_at text.now) (option_map trace_stop fault) }
-{
-    match fault {
-        Some(fault) => Some(stop_at(text, fault)),
-        None => None,
     }
 }
 
@@ -78,20 +69,15 @@ fn play_on<P: Protocol + Drop>(
     requires { reader.text.now ≡ text.now }
     ensures { IfOk result (λ ran. Played text.now reader.entry.at agreed.seats agreed.sets (P.cells protocol) (plain_lines memory) ran) }
 {
-    let mut steps = Vec::new(heap);
-    let (mut run, ticket) = Run::open(agreed, protocol, memory);
-    let ended = perform_all(&mut run, reader, &mut steps);
-    let Closed {
-        memory,
-        tally,
-        written,
-    } = run.close(ticket);
-    let fault = ended?;
+    let (run, ticket) = Run::open(agreed, protocol, memory);
+    let mut playing = Playing { run };
+    let ended = playing.perform_all(heap, reader);
+    let Playing { run } = playing;
+    let closed = run.close(ticket);
+    let (steps, fault) = ended?;
     Ok(Ran {
         steps,
-        stop: stop_if(text, fault),
-        written,
-        tally,
-        memory,
+        stop: fault.map(|fault| stop_at(text, fault)),
+        closed,
     })
 }

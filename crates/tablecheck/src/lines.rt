@@ -8,10 +8,8 @@ pub fn line_end(text: &[u8], from: usize) -> usize
     ensures before { (k : ℕ) → from ≤ k → k < result → slice_index text.now k ≢ 10 }
     ensures ends { result < length text.now → slice_index text.now result ≡ 10 }
 {
-    for at in from..text.len() {
-        if text[at] == b'\n' {
-            return at;
-        }
-    }
-    text.len()
+    let rest = &text[from..];
+    rest.iter()
+        .position(|byte| *byte == b'\n')
+        .map_or(text.len(), |count| from + count)
 }

@@ -2,6 +2,7 @@
 #![tactic(auto)]
 
 mod lines;
+mod reason;
 mod report;
 mod word;
 
@@ -18,13 +19,10 @@ fn main(rt: HostRuntime) -> io::Result<()> {
 
 // The report of each line in turn; the last one may lack its end.
 fn print_all(rt: &impl Print, text: &[u8]) -> io::Result<()> {
-    let mut number: u64 = 0;
-    let mut at = 0;
-    while at < text.len() {
-        let end = line_end(text, at);
-        number = number.saturating_add(1);
-        print_line(rt, number, &text[at..end])?;
-        at = end + 1;
+    let lines = text.split_inclusive(|byte| *byte == b'\n');
+    for (number, line) in (1u64..).zip(lines) {
+        // By line_end, whose contract says where the line ends; the last line may lack its byte 10.
+        print_line(rt, number, &line[0..line_end(line, 0)])?;
     }
     Ok(())
 }

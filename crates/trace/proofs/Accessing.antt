@@ -1,14 +1,13 @@
 -- Access lines keep faith with their written form.
-use Rattle.std.proofs.Common.{◌≡◌, ℕ, true, false, cond, eqb, ◌⊎◌, List, [], ◌∷◌, ◌++◌, Some, None, Ok, Err, decimal, Option, sym, refl, ap, ◌∙◌, inl, inr, ⊎_elim, append_assoc, arith}
+use Rattle.std.proofs.Common.{◌≡◌, ℕ, true, false, cond, eqb, ◌⊎◌, List, [], ◌∷◌, ◌++◌, Some, None, Err, decimal, Option, sym, refl, ap, inl, inr, append_assoc, arith}
 use Rattle.trace.specs.declared.access.Access.{Access}
 use Rattle.trace.specs.declared.access.Access.TheVariants.{Read, Write, Flush, Settle}
 use Rattle.trace.specs.declared.fault.LineFault.TheVariants.{Form}
 use Rattle.trace.specs.Choices.{is_digit}
-use Rattle.trace.specs.Reading.{Outcome, and_then, next_at, is_byte, byte_at}
-use Rattle.trace.specs.Lines.{target_at, read_line_at, write_line_at, flush_line_at, settle_line_at, access_at, access_by}
+use Rattle.trace.specs.Reading.{Outcome, next_at, is_byte}
+use Rattle.trace.specs.Lines.{target_at, target_line_at, read_line_at, write_line_at, flush_line_at, settle_line_at, access_at, access_by}
 use Rattle.trace.specs.Written.{written, Sound, Fits32}
 use Rattle.trace.proofs.Grammars.{stops, Grammar, then-grammar, made-grammar, alike_grammar, named-grammar}
-use Rattle.std.proofs.lemmas.Bool.{cases_Bool, cond-true, cond-false}
 use Rattle.trace.proofs.Parting.{byte-not}
 use Rattle.trace.proofs.Tokens.{byte-grammar, number-grammar}
 use Rattle.trace.proofs.Choosing.{one_of, choice_grammar}
@@ -49,20 +48,23 @@ aimed_text b x = (b ∷ []) ++ (target_text x.1.0 ++ (10 ∷ []))
 abbrev aimed_good : Aimed → Type 0
 aimed_good x = Unit {0} × (target_good x.1.0 × Unit {0})
 
+abbrev aimed_target : Aimed → ℕ → ℕ × ℕ
+aimed_target x i = target_value x.1.0 i
+
 abbrev aimed_value : (ℕ → ℕ → Access) → Aimed → ℕ → Access
 aimed_value f x i = f x.1.0.1.0 x.1.0.1.1.1
 
-read_grammar : Grammar (aimed_text 114) aimed_good (aimed_value Read) (λ _. false) read_line_at
-read_grammar =
-    then-grammar (byte-grammar 114)
-    (λ _. then-grammar target_grammar (λ at. made-grammar (byte-grammar 10) (λ _ _. Read at.0 at.1)) tt tt (λ y r h. refl))
+aimed_grammar : (b : ℕ) → Grammar (aimed_text b) aimed_good aimed_target (λ _. false) (target_line_at b)
+aimed_grammar b =
+    then-grammar (byte-grammar b)
+    (λ _. then-grammar target_grammar (λ at. made-grammar (byte-grammar 10) (λ _ _. at)) tt tt (λ y r h. refl))
     ((tt, (0, (tt, 0))), tt) ((tt, (omega arith, (tt, omega arith))), tt) (λ y r h. refl)
 
+read_grammar : Grammar (aimed_text 114) aimed_good (aimed_value Read) (λ _. false) read_line_at
+read_grammar = made-grammar (aimed_grammar 114) (λ _ at. Read at.0 at.1)
+
 flush_grammar : Grammar (aimed_text 102) aimed_good (aimed_value Flush) (λ _. false) flush_line_at
-flush_grammar =
-    then-grammar (byte-grammar 102)
-    (λ _. then-grammar target_grammar (λ at. made-grammar (byte-grammar 10) (λ _ _. Flush at.0 at.1)) tt tt (λ y r h. refl))
-    ((tt, (0, (tt, 0))), tt) ((tt, (omega arith, (tt, omega arith))), tt) (λ y r h. refl)
+flush_grammar = made-grammar (aimed_grammar 102) (λ _ at. Flush at.0 at.1)
 
 -- the same with a value
 abbrev Valued : Type 0
@@ -132,18 +134,12 @@ lined-grammar =
 
 -- without its letter a settle line is stuck where it begins
 no-settle : (t : List ℕ) (i : ℕ) → is_byte 115 (next_at t i) ≡ false → settle_line_at t i ≡ Err (Form i)
-no-settle t i h = ap (λ (o : Outcome (Unit {0})). and_then o (λ _ i. and_then (byte_at 10 t i) (λ _ i. Ok (Settle, i)))) (byte-not 115 t i h)
-
-last_letter : (t : List ℕ) (i b : ℕ) → next_at t i ≡ Some b → cond (eqb b 115) (settle_line_at t i) (Err (Form i)) ≡ settle_line_at t i
-last_letter t i b h =
-    ⊎_elim (λ y. cond-true (eqb b 115) (settle_line_at t i) (Err (Form i)) y)
-    (λ n. cond-false (eqb b 115) (settle_line_at t i) (Err (Form i)) n ∙ sym (no-settle t i (ap (is_byte 115) h ∙ n))) (cases_Bool (eqb b 115))
+no-settle t i h = grind (arith, byte-not)
 
 by-letter : (t : List ℕ) (i : ℕ) (o : Option ℕ) → next_at t i ≡ o
     → access_by o t i ≡ cond (is_byte 114 o) (read_line_at t i) (cond (is_byte 119 o) (write_line_at t i) (cond (is_byte 102 o) (flush_line_at t i) (settle_line_at t i)))
 by-letter t i None h = sym (no-settle t i (ap (is_byte 115) h))
-by-letter t i (Some b) h =
-    ap (λ (z : Outcome Access). cond (eqb b 114) (read_line_at t i) (cond (eqb b 119) (write_line_at t i) (cond (eqb b 102) (flush_line_at t i) z))) (last_letter t i b h)
+by-letter t i (Some b) h = grind (arith, no-settle)
 
 -- each of them is an access
 to_access : Lined → Access
@@ -159,14 +155,11 @@ access-sound (inr (inl x)) g = (g.1.0.1.0, g.1.0.1.1.1, g.1.1.1.0)
 access-sound (inr (inr (inl x))) g = (g.1.0.1.0, g.1.0.1.1.1)
 access-sound (inr (inr (inr x))) g = tt
 
-target-written : (s a : ℕ) (r : List ℕ) → decimal s ++ (32 ∷ (decimal a ++ r)) ≡ (decimal s ++ (32 ∷ decimal a)) ++ r
-target-written s a r = sym (append_assoc (decimal s) (32 ∷ decimal a) r)
-
 access-written : (x : Lined) → written (to_access x) ≡ lined_text x
 unfolding to_access
-access-written (inl x) = ap (λ (z : List ℕ). 114 ∷ (32 ∷ z)) (target-written x.1.0.1.0 x.1.0.1.1.1 (10 ∷ []))
-access-written (inr (inl x)) = ap (λ (z : List ℕ). 119 ∷ (32 ∷ z)) (target-written x.1.0.1.0 x.1.0.1.1.1 (32 ∷ (decimal x.1.1.1.0 ++ (10 ∷ []))))
-access-written (inr (inr (inl x))) = ap (λ (z : List ℕ). 102 ∷ (32 ∷ z)) (target-written x.1.0.1.0 x.1.0.1.1.1 (10 ∷ []))
+access-written (inl x) = refl
+access-written (inr (inl x)) = simp append_assoc
+access-written (inr (inr (inl x))) = refl
 access-written (inr (inr (inr x))) = refl
 
 access-value : (x : Lined) (i : ℕ) → lined_value x i ≡ to_access x

@@ -1,5 +1,5 @@
 -- The bus line keeps faith with its written form.
-use Rattle.std.proofs.Common.{◌≡◌, ℕ, ◌+◌, true, false, ◌⊎◌, List, [], ◌∷◌, ◌++◌, length, Some, None, decimal, Option, refl, ap, ◌∙◌, inl, inr, arith}
+use Rattle.std.proofs.Common.{◌≡◌, ℕ, ◌+◌, true, false, ◌⊎◌, List, [], ◌∷◌, ◌++◌, length, Some, None, decimal, Option, refl, ap, inl, inr, arith}
 use Rattle.trace.specs.declared.bus_line.BusLine.{BusLine}
 use Rattle.trace.specs.declared.bus_line.Numeral.{Numeral}
 use Rattle.trace.specs.declared.bus_line.Second.{Second}
@@ -19,7 +19,7 @@ Named = Unit {0} × (Unit {0} × Unit {0})
 
 bus-word_grammar : Grammar {X = Named} (λ _. 98 ∷ (117 ∷ (115 ∷ []))) (λ _. Named) (λ _ _. tt {0}) (λ _. false) bus_word_at
 bus-word_grammar =
-    then-grammar (byte-grammar 98) (λ _. then-grammar (byte-grammar 117) (λ _. byte-grammar 115) tt tt (λ y r h. refl)) (tt, tt) (tt, tt) (λ y r h. refl)
+    then-grammar (byte-grammar 98) (λ _. then-grammar (byte-grammar 117) (λ _. made-grammar (byte-grammar 115) (λ _ _. tt)) tt tt (λ y r h. refl)) (tt, tt) (tt, tt) (λ y r h. refl)
 
 -- ` NUMBER`
 abbrev Numbered : Type 0
@@ -188,11 +188,7 @@ bus-value x i =
     let c : begin3 x i + 1 ≡ z.lines.byte = omega arith in
     let d : begin4 x i + 1 ≡ z.first.start = omega arith in
     let s = tail-value x.1.1.1.1.1 (begin5 x i) (z.first.end + 1) (omega arith) in
-    ap (λ (k : ℕ). built x k (begin2 x i + 1) (begin3 x i + 1) (begin4 x i + 1) (tailed_value x.1.1.1.1.1 (begin5 x i))) a
-    ∙ (ap (λ (k : ℕ). built x z.seats.byte k (begin3 x i + 1) (begin4 x i + 1) (tailed_value x.1.1.1.1.1 (begin5 x i))) b
-    ∙ (ap (λ (k : ℕ). built x z.seats.byte z.sets.byte k (begin4 x i + 1) (tailed_value x.1.1.1.1.1 (begin5 x i))) c
-    ∙ (ap (λ (k : ℕ). built x z.seats.byte z.sets.byte z.lines.byte k (tailed_value x.1.1.1.1.1 (begin5 x i))) d
-    ∙ ap (λ (k : Option Second). built x z.seats.byte z.sets.byte z.lines.byte z.first.start k) s)))
+    cc
 
 tail-lined : (o : Option SecondText) → SoundTail o → (y : Seconded ⊎ Unit {0}) × (to_second y ≡ o) × tailed_good y
 tail-lined None g = (inr tt, refl, tt)

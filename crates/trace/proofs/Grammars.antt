@@ -4,13 +4,13 @@
 -- stops    the next byte, if there is one, does not pass a test: a run that is made of such bytes ends here
 -- Grammar  a reading reads back what is written, passes only what is written, and is stuck no sooner than it must
 use Rattle.std.proofs.Common.{◌≡◌, ℕ, ◌+◌, ◌^◌, ◌≤◌, Bool, true, not, List, [], ◌∷◌, ◌++◌, length, drop, Ok, Err, Result, sym, refl, ap, ◌∙◌, subst, append_assoc, arith, length-append}
+use Rattle.std.specs.List.{take_while}
 use Rattle.std.proofs.lemmas.List.{drop-drop, drop_at}
 use Rattle.trace.specs.declared.fault.NumberFault.{NumberFault}
 use Rattle.trace.specs.declared.fault.LineFault.{LineFault}
 use Rattle.trace.specs.declared.fault.LineFault.TheVariants.{Form, Number}
-use Rattle.trace.specs.declared.part.Part.TheVariants as part
+use Rattle.trace.specs.Choices.{is_digit}
 use Rattle.trace.specs.Reading.{Outcome, and_then, value_on}
-use Rattle.trace.specs.Runs.{run}
 
 -- what is left of the text from a place on
 abbrev pub From : List ℕ → ℕ → List ℕ → Type 0
@@ -58,7 +58,7 @@ pub record Stuck {X A : Type 0} (T : X → List ℕ) (G : X → Type 0) (p : Lis
 -- where a number is too large: its digits begin there
 pub record Large {X : Type 0} (T : X → List ℕ) (G : X → Type 0) (i : ℕ) (s : List ℕ) (k : ℕ) : Type 0 where
   pub at : Reached T G i s k
-  pub over : 2 ^ 32 ≤ value_on 0 (run part.Number at.rest)
+  pub over : 2 ^ 32 ≤ value_on 0 (take_while is_digit at.rest)
 
 -- a reading p of the forms that T writes, those of which G holds, each with the value that it has at its place
 pub record Grammar {X A : Type 0} (T : X → List ℕ) (G : X → Type 0) (val : X → ℕ → A) (test : ℕ → Bool) (p : List ℕ → ℕ → Outcome A) : Type 0 where
@@ -77,9 +77,9 @@ gone (Ok x) f z h = onward x.0 x.1 refl h
 gone (Err e) f z h = halted e refl h
 
 no_value : {A : Type 0} (e : LineFault) (a : A) → ◌≡◌ {A = Result A LineFault} (Err e) (Ok a) → ⊥
-no_value e a h = let z : ◌≡◌ {A = ℕ} 0 1 = cc in omega arith
+no_value e a h = cc
 
-same_answer : {A : Type 0} (x y : A × ℕ) → ◌≡◌ {A = Outcome A} (Ok x) (Ok y) → x ≡ y
+pub same_answer : {A : Type 0} (x y : A × ℕ) → ◌≡◌ {A = Outcome A} (Ok x) (Ok y) → x ≡ y
 same_answer x y h = cc
 
 same-fault : {A : Type 0} (e f : LineFault) → ◌≡◌ {A = Result A LineFault} (Err e) (Err f) → e ≡ f

@@ -1,41 +1,40 @@
 -- A line that is read whole keeps faith with its written form.
 use Rattle.std.proofs.Common.{◌≡◌, ℕ, ◌+◌, ◌-◌, ◌^◌, ◌<◌, ◌≤◌, false, List, [], ◌∷◌, ◌++◌, length, take, drop, Ok, Err, Result, sym, refl, ap, ◌∙◌, subst, append_assoc, append-nil, arith, length-append, length-drop}
+use Rattle.std.specs.List.{take_while}
 use Rattle.std.proofs.lemmas.List.{take_at, drop_at, take-append-drop, length-take-le}
 use Rattle.trace.specs.declared.fault.NumberFault.{NumberFault}
 use Rattle.trace.specs.declared.fault.LineFault.{LineFault}
 use Rattle.trace.specs.declared.fault.LineFault.TheVariants.{Form, Number}
-use Rattle.trace.specs.declared.part.Part.TheVariants as part
-use Rattle.trace.specs.Reading.{Outcome, Reads, value_on}
-use Rattle.trace.specs.Runs.{run}
+use Rattle.trace.specs.Choices.{is_digit}
+use Rattle.trace.specs.Reading.{Outcome, ReadsTo, value_on}
 use Rattle.trace.specs.Written.{Stands, Front, Overflow, Faithful}
-use Rattle.trace.proofs.Grammars.{From, from_on, Reached, Stuck, Large, Grammar}
-use Rattle.trace.proofs.Tokens.{same_read}
+use Rattle.trace.proofs.Grammars.{same_answer, From, from_on, Reached, Stuck, Large, Grammar}
 use Rattle.trace.proofs.Accessing.{all-stop}
 
 module _ {X A : Type 0} {T : X → List ℕ} {G : X → Type 0} {val : X → ℕ → A} {p : List ℕ → ℕ → Outcome A} (P : Grammar T G val (λ _. false) p) (t : List ℕ) (i : ℕ)
     (within : i ≤ length t) where
-  read_back : (r : Result A LineFault) (j : ℕ) → Reads (p t i) i r j → (x : X) → G x → Stands t i (T x) → (r ≡ Ok (val x i)) × (j ≡ i + length (T x))
+  read_back : (r : Result A LineFault) (j : ℕ) → ReadsTo (p t i) i r j → (x : X) → G x → Stands t i (T x) → (r ≡ Ok (val x i)) × (j ≡ i + length (T x))
   read_back (Ok a) j h x g s =
-      let q = same_read (a, j) (val x i, i + length (T x)) (sym h ∙ P.back x g t i s.0 s.1 (all-stop s.0)) in
+      let q = same_answer (a, j) (val x i, i + length (T x)) (sym h ∙ P.back x g t i s.0 s.1 (all-stop s.0)) in
       (ap (λ (z : A × ℕ). Ok z.0) q, ap (λ (z : A × ℕ). z.1) q)
   read_back (Err f) j h x g s =
-      absurd (let q = h.0 in let m = P.back x g t i s.0 s.1 (all-stop s.0) in let z : ◌≡◌ {A = ℕ} 0 1 = cc in omega arith)
+      absurd (let q = h.0 in let m = P.back x g t i s.0 s.1 (all-stop s.0) in cc)
 
-  read-stands : (r : Result A LineFault) (j : ℕ) → Reads (p t i) i r j → (a : A) → r ≡ Ok a
+  read-stands : (r : Result A LineFault) (j : ℕ) → ReadsTo (p t i) i r j → (a : A) → r ≡ Ok a
       → (x : X) × G x × (a ≡ val x i) × Stands t i (T x) × (j ≡ i + length (T x))
   read-stands r j h a e =
-      let q : p t i ≡ Ok (a, j) = subst (λ (z : Result A LineFault). Reads (p t i) i z j) e h in
+      let q : p t i ≡ Ok (a, j) = subst (λ (z : Result A LineFault). ReadsTo (p t i) i z j) e h in
       let x = P.passes t i (drop i t) a j refl q in
       (x.form, x.sound, x.means, (x.rest, x.cut), x.place)
 
-  stuck_at : (r : Result A LineFault) (j : ℕ) → Reads (p t i) i r j → (k : ℕ) → r ≡ Err (Form k) → Stuck T G p i (drop i t) k
+  stuck_at : (r : Result A LineFault) (j : ℕ) → ReadsTo (p t i) i r j → (k : ℕ) → r ≡ Err (Form k) → Stuck T G p i (drop i t) k
   stuck_at r j h k e =
-      let q : (p t i ≡ Err (Form k)) × (j ≡ i) = subst (λ (z : Result A LineFault). Reads (p t i) i z j) e h in
+      let q : (p t i ≡ Err (Form k)) × (j ≡ i) = subst (λ (z : Result A LineFault). ReadsTo (p t i) i z j) e h in
       P.stuck t i (drop i t) k refl q.0
 
-  large-at : (r : Result A LineFault) (j : ℕ) → Reads (p t i) i r j → (f : NumberFault) → r ≡ Err (Number f) → Large T G i (drop i t) f.byte
+  large-at : (r : Result A LineFault) (j : ℕ) → ReadsTo (p t i) i r j → (f : NumberFault) → r ≡ Err (Number f) → Large T G i (drop i t) f.byte
   large-at r j h f e =
-      let q : (p t i ≡ Err (Number f)) × (j ≡ i) = subst (λ (z : Result A LineFault). Reads (p t i) i z j) e h in
+      let q : (p t i ≡ Err (Number f)) × (j ≡ i) = subst (λ (z : Result A LineFault). ReadsTo (p t i) i z j) e h in
       P.large t i (drop i t) f refl q.0
 
   length-left : (k : ℕ) (x : Reached T G i (drop i t) k) → length x.before + length x.rest ≡ length t - i
@@ -64,7 +63,7 @@ module _ {X A : Type 0} {T : X → List ℕ} {G : X → Type 0} {val : X → ℕ
   large-there k x =
       record {
         front = reached-front k x.at;
-        over = subst (λ (z : List ℕ). 2 ^ 32 ≤ value_on 0 (run part.Number z)) (sym (digits-there k x.at)) x.over;
+        over = subst (λ (z : List ℕ). 2 ^ 32 ≤ value_on 0 (take_while is_digit z)) (sym (digits-there k x.at)) x.over;
       }
 
   -- the byte there, and what a sound line with it would be
@@ -84,8 +83,7 @@ module _ {X A : Type 0} {T : X → List ℕ} {G : X → Type 0} {val : X → ℕ
       let d : From u i (T y) = drop_at (take i t) (T y) i (length-take-le i t within) in
       let one = x.lasting b v w u e (d ∙ s) in
       let two = P.back y f.sound u i [] (d ∙ sym (append-nil (T y))) refl in
-      let z : ◌≡◌ {A = ℕ} 0 1 = cc in
-      omega arith
+      cc
 
   some_left : (k : ℕ) (x : Stuck T G p i (drop i t) k) → k < length t → 0 < length x.at.rest
   some_left k x h = omega (arith, x.at.place, length-left k x.at, h, within)
@@ -94,7 +92,7 @@ module _ {X A : Type 0} {T : X → List ℕ} {G : X → Type 0} {val : X → ℕ
   farthest k x [] e h f = omega arith
   farthest k x (b ∷ v) e h f = no-further k x b v e f
 
-  pub keeps-faith : (r : Result A LineFault) (j : ℕ) → Reads (p t i) i r j → Faithful T G val t i r j
+  pub keeps-faith : (r : Result A LineFault) (j : ℕ) → ReadsTo (p t i) i r j → Faithful T G val t i r j
   keeps-faith r j h =
       record {
         back = read_back r j h;

@@ -1,15 +1,12 @@
 pub mod Accessing
 pub mod Bussing
 pub mod Choosing
-pub mod Counting
 pub mod Digits
 pub mod Grammars
 pub mod Inside
 pub mod Keeping
 pub mod Naming
-pub mod Opening
 pub mod Parting
-pub mod Running
 pub mod Tokens
 pub mod Valuing
 pub mod Wholes

@@ -9,8 +9,8 @@ use Rattle.refusal.specs.Refusals.{plain}
 use Rattle.protocol.specs.Tables.{table_refusal}
 use Rattle.protocol.specs.declared.published.Published.{Published}
 use Rattle.protocol.specs.declared.published.Published.TheVariants.{WriteThrough, Msi, WriteOnce, Illinois, Berkeley, Dragon, Firefly}
-use Rattle.protocol.specs.Published.{published_name}
-use Rattle.trace.specs.Choices.{named_among, named, Unnamed, is_table, word_refusal, name_refusal}
+use Rattle.protocol.specs.Published.{published_name, named_among, named, Unnamed}
+use Rattle.trace.specs.Choices.{is_table, word_refusal, name_refusal}
 
 -- a word that is none of these names is not found among them
 pub none-among : (ps : List Published) (w : List ℕ) → Unnamed w → named_among ps w ≡ None
@@ -20,17 +20,6 @@ none-among (p ∷ ps) w h =
     ⊎_elim (λ e. absurd (h p (sym ((bytes_eq-Decides w (published_name p)).0 e)))) (λ e. e) (cases_Bool (bytes_eq w (published_name p)))
     in
     cond-false (bytes_eq w (published_name p)) (Some p) (named_among ps w) no ∙ none-among ps w h
-
--- a word that differs from each name is no name
-pub by_names : (w : List ℕ) → (w ≡ published_name WriteThrough → ⊥) → (w ≡ published_name Msi → ⊥) → (w ≡ published_name WriteOnce → ⊥) → (w ≡ published_name Illinois → ⊥)
-    → (w ≡ published_name Berkeley → ⊥) → (w ≡ published_name Dragon → ⊥) → (w ≡ published_name Firefly → ⊥) → Unnamed w
-by_names w a b c d e f g WriteThrough h = a (sym h)
-by_names w a b c d e f g Msi h = b (sym h)
-by_names w a b c d e f g WriteOnce h = c (sym h)
-by_names w a b c d e f g Illinois h = d (sym h)
-by_names w a b c d e f g Berkeley h = e (sym h)
-by_names w a b c d e f g Dragon h = f (sym h)
-by_names w a b c d e f g Firefly h = g (sym h)
 
 low : List ℕ → Bool
 low [] = true

@@ -1,24 +1,20 @@
 -- The access lines of a text, all of them.
 use Rattle.std.proofs.Common.{◌≡◌, ℕ, ◌+◌, ◌<◌, ◌≤◌, List, [], ◌∷◌, ◌++◌, length, drop, Some, None, Ok, Err, Option, Result, sym, refl, ap, ◌∙◌, subst, arith, length-append, length-drop}
 use Rattle.std.specs.List.{flat_map, AllByRecursion}
+use Rattle.std.specs.Result.{IsErrAnd}
 use Rattle.std.proofs.lemmas.List.{drop_all}
 use Rattle.trace.specs.declared.access.Access.{Access}
-use Rattle.trace.specs.declared.access.Access.TheVariants.{Read, Write, Flush, Settle}
 use Rattle.trace.specs.declared.fault.LineFault.{LineFault}
 use Rattle.trace.specs.declared.fault.TraceFault.{TraceFault}
 use Rattle.trace.specs.Lines.{access_at}
 use Rattle.trace.specs.Texts.{Accesses, ended, faulty, more, AccessLaws, NextRead, Counted}
-use Rattle.trace.specs.Written.{written, Sound}
-use Rattle.trace.proofs.Grammars.{from_on}
-use Rattle.trace.proofs.Tokens.{same_read}
+use Rattle.trace.specs.Written.{line_end, access_text, written, Sound}
+use Rattle.trace.proofs.Grammars.{same_answer, from_on}
 use Rattle.trace.proofs.Accessing.{access-grammar, all-stop}
 
 -- a line has bytes
 some_bytes : (a : Access) → 0 < length (written a)
-some_bytes (Read s a) = omega arith
-some_bytes (Write s a v) = omega arith
-some_bytes (Flush s a) = omega arith
-some_bytes Settle = omega arith
+some_bytes a = omega (arith, length-append (access_text a) line_end)
 
 -- reading a line goes on, and not past the text
 pub goes_on : (t : List ℕ) (i j : ℕ) (a : Access) → i ≤ length t → access_at t i ≡ Ok (a, j) → (i < j) × (j ≤ length t)
@@ -40,7 +36,7 @@ written_back t i (a ∷ xs) h g e =
 
 as_written : (t : List ℕ) (i : ℕ) (xs : List Access) (o : Option LineFault) → i ≤ length t → Accesses t i xs o → o ≡ None → AllByRecursion Sound xs × (drop i t ≡ flat_map written xs)
 as_written t i [] o h (ended e) q = (tt, drop_all i t (omega (arith, e)))
-as_written t i [] o h (faulty l e) q = absurd (let z : ◌≡◌ {A = ℕ} 0 1 = cc in omega arith)
+as_written t i [] o h (faulty l e) q = absurd (cc)
 as_written t i (a ∷ xs) o h (more {j = j} l e r) q =
     let x = access-grammar.passes t i (drop i t) a j refl e in
     let b = as_written t j xs o (goes_on t i j a h e).1 r q in
@@ -55,11 +51,11 @@ one-reading t i [] [] o p (ended e) (faulty l f) = absurd (omega (arith, e, l))
 one-reading t i [] (b ∷ ys) o p (ended e) (more l f r) = absurd (omega (arith, e, l))
 one-reading t i [] [] o p (faulty l e) (ended f) = absurd (omega (arith, f, l))
 one-reading t i [] [] (Some d) (Some g) (faulty l e) (faulty m f) = (refl, (cc))
-one-reading t i [] (b ∷ ys) o p (faulty l e) (more m f r) = absurd (let z : ◌≡◌ {A = ℕ} 0 1 = cc in omega arith)
+one-reading t i [] (b ∷ ys) o p (faulty l e) (more m f r) = absurd (cc)
 one-reading t i (a ∷ xs) [] o p (more l e r) (ended f) = absurd (omega (arith, f, l))
-one-reading t i (a ∷ xs) [] o p (more l e r) (faulty m f) = absurd (let z : ◌≡◌ {A = ℕ} 0 1 = cc in omega arith)
+one-reading t i (a ∷ xs) [] o p (more l e r) (faulty m f) = absurd (cc)
 one-reading t i (a ∷ xs) (b ∷ ys) o p (more {j = j} l e r) (more {j = k} m f q) =
-    let s = same_read (a, j) (b, k) (sym e ∙ f) in
+    let s = same_answer (a, j) (b, k) (sym e ∙ f) in
     let x = one-reading t j xs ys o p r (subst (λ (n : ℕ). Accesses t n ys p) (sym (ap (λ (z : Access × ℕ). z.1) s)) q) in
     let y : a ≡ b = ap (λ (z : Access × ℕ). z.0) s in
     let w = x.0 in
@@ -94,8 +90,9 @@ next-none u t i j o e q r =
 pub counted-all : (t : List ℕ) (i j n : ℕ) → Followed t i j n → j ≡ length t → Counted t i (Ok n)
 counted-all t i j n f e = let x = f [] None (ended e) in (x.0, x.1, omega (arith, x.2))
 
-pub counted-fault : (u t : List ℕ) (i j k n : ℕ) (r : Result ℕ TraceFault) (f : TraceFault) → u ≡ t → r ≡ Err f → NextRead u j (Err f) k → Followed t i j n → Counted t i r
-counted-fault u t i j k n r f e q h w =
+pub counted-fault : (u t : List ℕ) (i j k n : ℕ) (r : Result ℕ TraceFault) (f : TraceFault) → u ≡ t → IsErrAnd r (λ e. e ≡ f) → NextRead u j (Err f) k → Followed t i j n → Counted t i r
+counted-fault u t i j k n (Ok m) f e q h w = absurd q
+counted-fault u t i j k n (Err d) f e q h w =
     let g : NextRead t j (Err f) k = subst (λ (z : List ℕ). NextRead z j (Err f) k) e h in
     let x = w [] (Some g.1.0) (faulty g.0 g.1.2) in
-    subst (λ (z : Result ℕ TraceFault). Counted t i z) (sym q) (x.0, g.1.0, x.1, g.1.1)
+    (x.0, g.1.0, x.1, q ∙ g.1.1)

@@ -1,17 +1,14 @@
 -- The words of a text that choose a protocol.
 --
 -- is_table      a word that begins with a digit is a table, any other a name
--- named        the published protocol of a name, and Unnamed that there is none
 -- word_refusal  what is due for a word: as for a table, or 11 for an unknown name
 -- word_cells    the cells that an accepted word chooses
 -- spelled      the word that a choice is written as
 -- Chosen       what reading an accepted word gives
-use Rattle.std.specs.Prelude.{◌≡◌, ℕ, Bool, true, false, cond, ◌&&◌, List, [], ◌∷◌, Some, None, Option, ◌≢◌, nat_le}
-use Rattle.std.specs.Str.{bytes_eq}
+use Rattle.std.specs.Prelude.{◌≡◌, ℕ, Bool, true, false, cond, ◌&&◌, List, [], ◌∷◌, Some, None, Option, nat_le}
 use Rattle.refusal.specs.Refusals.{Told, plain}
 use Rattle.protocol.specs.declared.published.Published.{Published}
-use Rattle.protocol.specs.declared.published.Published.TheVariants.{WriteThrough, Msi, WriteOnce, Illinois, Berkeley, Dragon, Firefly}
-use Rattle.protocol.specs.Published.{published_name, published_cells}
+use Rattle.protocol.specs.Published.{published_name, published_cells, named}
 use Rattle.protocol.specs.Tables.{table_refusal}
 use Rattle.trace.specs.declared.choice.Choice.{Choice}
 use Rattle.trace.specs.declared.choice.Choice.TheVariants.{Named, Loaded}
@@ -24,19 +21,6 @@ is_digit b = nat_le 48 b && nat_le b 57
 abbrev pub is_table : List ℕ → Bool
 is_table [] = false
 is_table (b ∷ bs) = is_digit b
-
--- the protocol among these whose name the word is
-abbrev pub named_among : List Published → List ℕ → Option Published
-named_among [] w = None
-named_among (p ∷ ps) w = cond (bytes_eq w (published_name p)) (Some p) (named_among ps w)
-
--- the published protocol whose name the word is
-abbrev pub named : List ℕ → Option Published
-named w = named_among (WriteThrough ∷ Msi ∷ WriteOnce ∷ Illinois ∷ Berkeley ∷ Dragon ∷ Firefly ∷ []) w
-
--- no published protocol has this name
-abbrev pub Unnamed : List ℕ → Type 0
-Unnamed w = (p : Published) → published_name p ≢ w
 
 -- an unknown name is refused
 abbrev pub name_refusal : Option Published → Option Told

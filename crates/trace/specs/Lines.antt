@@ -1,10 +1,11 @@
 -- Reading a whole line, from a place of the text on.
 --
 -- target_at   ` SEAT ADDR`
+-- target_line_at  a letter, ` SEAT ADDR`, and the line's end
 -- access_at   an access line: `r SEAT ADDR`, `w SEAT ADDR VALUE`, `f SEAT ADDR` or `s`; its first byte decides
 -- numeral_at  ` NUMBER`, and spaced_word_at ` WORD`
 -- bus_at      the bus line: `bus SEATS SETS LINES P` or `bus SEATS SETS LINES P B Q`
-use Rattle.std.specs.Prelude.{ℕ, cond, List, Some, None, Ok, Err, Option, ◌==◌}
+use Rattle.std.specs.Prelude.{ℕ, cond, List, [], ◌∷◌, Some, None, Ok, Err, codes, Option, ◌==◌}
 use Rattle.trace.specs.declared.access.Access.{Access}
 use Rattle.trace.specs.declared.access.Access.TheVariants.{Read, Write, Flush, Settle}
 use Rattle.trace.specs.declared.bus_line.BusLine.{BusLine}
@@ -19,10 +20,13 @@ abbrev pub target_at : List ℕ → ℕ → Outcome (ℕ × ℕ)
 target_at t i =
     and_then (byte_at 32 t i) (λ _ i. and_then (number_at t i) (λ seat i. and_then (byte_at 32 t i) (λ _ i. and_then (number_at t i) (λ address i. Ok ((seat, address), i)))))
 
+-- a letter, ` SEAT ADDR`, and the line's end
+abbrev pub target_line_at : ℕ → List ℕ → ℕ → Outcome (ℕ × ℕ)
+target_line_at letter t i = and_then (byte_at letter t i) (λ _ i. and_then (target_at t i) (λ at i. and_then (byte_at 10 t i) (λ _ i. Ok (at, i))))
+
 -- `r SEAT ADDR`
 abbrev pub read_line_at : List ℕ → ℕ → Outcome Access
-read_line_at t i =
-    and_then (byte_at 114 t i) (λ _ i. and_then (target_at t i) (λ at i. and_then (byte_at 10 t i) (λ _ i. Ok (Read at.0 at.1, i))))
+read_line_at t i = and_then (target_line_at 114 t i) (λ at i. Ok (Read at.0 at.1, i))
 
 -- `w SEAT ADDR VALUE`
 abbrev pub write_line_at : List ℕ → ℕ → Outcome Access
@@ -32,8 +36,7 @@ write_line_at t i =
 
 -- `f SEAT ADDR`
 abbrev pub flush_line_at : List ℕ → ℕ → Outcome Access
-flush_line_at t i =
-    and_then (byte_at 102 t i) (λ _ i. and_then (target_at t i) (λ at i. and_then (byte_at 10 t i) (λ _ i. Ok (Flush at.0 at.1, i))))
+flush_line_at t i = and_then (target_line_at 102 t i) (λ at i. Ok (Flush at.0 at.1, i))
 
 -- `s`
 abbrev pub settle_line_at : List ℕ → ℕ → Outcome Access
@@ -49,9 +52,14 @@ access_by (Some b) t i =
 abbrev pub access_at : List ℕ → ℕ → Outcome Access
 access_at t i = access_by (next_at t i) t i
 
+-- these bytes, one behind the other
+abbrev pub bytes_at : List ℕ → List ℕ → ℕ → Outcome (Unit {0})
+bytes_at [] t i = Ok (tt, i)
+bytes_at (b ∷ bs) t i = and_then (byte_at b t i) (λ _ i. bytes_at bs t i)
+
 -- `bus`
 abbrev pub bus_word_at : List ℕ → ℕ → Outcome (Unit {0})
-bus_word_at t i = and_then (byte_at 98 t i) (λ _ i. and_then (byte_at 117 t i) (λ _ i. byte_at 115 t i))
+bus_word_at t i = bytes_at (codes "bus") t i
 
 -- ` NUMBER`, with the number's first byte
 abbrev pub numeral_at : List ℕ → ℕ → Outcome Numeral

@@ -2,7 +2,7 @@
 --
 -- Outcome   a value and the place behind it, or the line's fault
 -- and_then   reading goes on behind what was read
--- Reads     what a reader answers and where it then stands: behind the value, or where it stood
+-- Reads     what a reader answers and where it then stands in the same text: behind the value, or where it stood
 -- Comes     the same, with the place left open at a fault
 -- next_at    the next byte, if the text does not end here
 -- byte_at    just this byte
@@ -14,9 +14,10 @@ use Rattle.refusal.specs.Refusals.{first}
 use Rattle.trace.specs.declared.fault.NumberFault.{NumberFault}
 use Rattle.trace.specs.declared.fault.LineFault.{LineFault}
 use Rattle.trace.specs.declared.fault.LineFault.TheVariants.{Form, Number}
+use Rattle.trace.specs.declared.reader.Reader.{Reader}
 use Rattle.trace.specs.declared.word.Word.{Word}
-use Rattle.trace.specs.declared.part.Part.TheVariants as part
-use Rattle.trace.specs.Runs.{run_at}
+use Rattle.trace.specs.Choices.{is_digit}
+use Rattle.trace.specs.Runs.{in_word, run_at}
 
 -- a value and the place behind it, or the line's fault
 abbrev pub Outcome : Type 0 → Type 0
@@ -27,15 +28,25 @@ abbrev pub and_then : {A B : Type 0} → Outcome A → (A → ℕ → Outcome B)
 and_then (Ok x) f = f x.0 x.1
 and_then (Err e) f = Err e
 
--- a reader that stood at i answers so, and then stands at j: behind the value, or where it stood
-abbrev pub Reads : {A : Type 0} → Outcome A → ℕ → Result A LineFault → ℕ → Type 0
-Reads o i (Ok x) j = o ≡ Ok (x, j)
-Reads o i (Err e) j = (o ≡ Err e) × (j ≡ i)
+-- a reading from place i on answers so, and then stands at j: behind the value, or where it stood
+abbrev pub ReadsTo : {A : Type 0} → Outcome A → ℕ → Result A LineFault → ℕ → Type 0
+ReadsTo o i (Ok x) j = o ≡ Ok (x, j)
+ReadsTo o i (Err e) j = (o ≡ Err e) × (j ≡ i)
 
 -- a reading came to this answer, and to the place j where it has a value
-abbrev pub Comes : {A : Type 0} → Outcome A → Result A LineFault → ℕ → Type 0
-Comes o (Ok x) j = o ≡ Ok (x, j)
-Comes o (Err e) j = o ≡ Err e
+abbrev pub ComesTo : {A : Type 0} → Outcome A → Result A LineFault → ℕ → Type 0
+ComesTo o (Ok x) j = o ≡ Ok (x, j)
+ComesTo o (Err e) j = o ≡ Err e
+
+-- a reader that was `old` answers so, and is then `new`: over the same text, and behind the value, or where it stood
+pub record Reads {A : Type 0} (reading : List ℕ → ℕ → Outcome A) (old : Reader) (result : Result A LineFault) (new : Reader) : Type 0 where
+  pub reads : ReadsTo (reading old.text.now old.at) old.at result new.at
+  pub text : new.text.now ≡ old.text.now
+
+-- the same, with the place left open at a fault
+pub record Comes {A : Type 0} (reading : List ℕ → ℕ → Outcome A) (old : Reader) (result : Result A LineFault) (new : Reader) : Type 0 where
+  pub comes : ComesTo (reading old.text.now old.at) result new.at
+  pub text : new.text.now ≡ old.text.now
 
 -- the next byte, if there is one
 unfoldable pub next_at : List ℕ → ℕ → Option ℕ
@@ -77,7 +88,7 @@ up_to j (Err e) = Err e
 
 -- a number
 unfoldable pub number_at : List ℕ → ℕ → Outcome ℕ
-number_at t i = up_to (i + length (run_at part.Number t i)) (number_of (run_at part.Number t i) i)
+number_at t i = up_to (i + length (run_at is_digit t i)) (number_of (run_at is_digit t i) i)
 
 -- these bytes, where they are the longest run: at least one
 abbrev pub word_of : List ℕ → ℕ → Outcome Word
@@ -86,4 +97,4 @@ word_of (b ∷ bs) i = Ok (record { start = i; end = i + length (b ∷ bs) }, i 
 
 -- a word
 unfoldable pub word_at : List ℕ → ℕ → Outcome Word
-word_at t i = word_of (run_at part.Word t i) i
+word_at t i = word_of (run_at in_word t i) i

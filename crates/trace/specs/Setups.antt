@@ -8,6 +8,7 @@
 -- Given        a setup is what the bus line says
 use Rattle.std.specs.Prelude.{◌≡◌, ℕ, ◌≤◌, cond, ◌&&◌, List, length, Some, None, Ok, Err, Option, Result, ◌==◌, nat_le}
 use Rattle.std.specs.List.{between}
+use Rattle.std.specs.Option.{ForSome}
 use Rattle.refusal.specs.Refusals.{Told, plain}
 use Rattle.caches.specs.Sizes.{agree_refusal}
 use Rattle.trace.specs.declared.bus_line.BusLine.{BusLine}
@@ -56,8 +57,7 @@ abbrev pub Inside : List ℕ → Word → Type 0
 Inside t w = (w.start ≤ w.end) × (w.end ≤ length t)
 
 abbrev pub InsideSecond : List ℕ → Option Second → Type 0
-InsideSecond t None = Unit {0}
-InsideSecond t (Some s) = Inside t s.word
+InsideSecond t second = ForSome second (λ s. Inside t s.word)
 
 -- a protocol's word
 abbrev pub word_stop : List ℕ → Word → Option Stop

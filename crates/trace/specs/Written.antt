@@ -1,6 +1,6 @@
 -- The written form of a line, and what it means that reading keeps faith with it.
 --
--- written    an access line as it stands in a text, and Sound that its numbers fit 32 bits
+-- access_text, written  an access as its line has it, without the line's end and with it; Sound that its numbers fit 32 bits
 -- BusText    what a bus line says, with written_bus and SoundBus
 -- bus_line_of  the bus line that is read at a place: its numbers and words, and where each begins
 -- Stands     these bytes stand in the text from a place on
@@ -9,6 +9,7 @@
 -- Faithful   what is written is read back; what is read stands there as it is written; a line of wrong form is told
 --            at the end of its longest front, and a number that does not fit at its first byte
 use Rattle.std.specs.Prelude.{◌≡◌, ℕ, ◌+◌, ◌-◌, ◌^◌, ◌<◌, ◌≤◌, true, List, [], ◌∷◌, ◌++◌, length, take, drop, Some, None, Ok, Err, codes, decimal, Option, Result}
+use Rattle.std.specs.List.{list_all}
 use Rattle.trace.specs.declared.access.Access.{Access}
 use Rattle.trace.specs.declared.access.Access.TheVariants.{Read, Write, Flush, Settle}
 use Rattle.trace.specs.declared.bus_line.BusLine.{BusLine}
@@ -16,21 +17,25 @@ use Rattle.trace.specs.declared.bus_line.Second.{Second}
 use Rattle.trace.specs.declared.fault.LineFault.{LineFault}
 use Rattle.trace.specs.declared.fault.LineFault.TheVariants.{Form, Number}
 use Rattle.trace.specs.declared.fault.NumberFault.{NumberFault}
-use Rattle.trace.specs.declared.part.Part.TheVariants as part
 use Rattle.trace.specs.declared.word.Word.{Word}
+use Rattle.trace.specs.Choices.{is_digit}
 use Rattle.trace.specs.Reading.{value_on}
-use Rattle.trace.specs.Runs.{all_pass, in_word, run_at}
+use Rattle.trace.specs.Runs.{in_word, run_at}
 
 -- the end of a line
 abbrev pub line_end : List ℕ
 line_end = 10 ∷ []
 
+-- an access as its line has it, without the line's end
+abbrev pub access_text : Access → List ℕ
+access_text (Read seat address) = codes "r " ++ (decimal seat ++ (codes " " ++ decimal address))
+access_text (Write seat address value) = codes "w " ++ (decimal seat ++ (codes " " ++ (decimal address ++ (codes " " ++ decimal value))))
+access_text (Flush seat address) = codes "f " ++ (decimal seat ++ (codes " " ++ decimal address))
+access_text Settle = codes "s"
+
 -- an access line as it is written
 abbrev pub written : Access → List ℕ
-written (Read seat address) = codes "r " ++ (decimal seat ++ (codes " " ++ (decimal address ++ line_end)))
-written (Write seat address value) = codes "w " ++ (decimal seat ++ (codes " " ++ (decimal address ++ (codes " " ++ (decimal value ++ line_end)))))
-written (Flush seat address) = codes "f " ++ (decimal seat ++ (codes " " ++ (decimal address ++ line_end)))
-written Settle = codes "s" ++ line_end
+written access = access_text access ++ line_end
 
 -- a number of 32 bits
 abbrev pub Fits32 : ℕ → Type 0
@@ -45,7 +50,7 @@ Sound Settle = Unit {0}
 
 -- a word has at least one byte, and no space or byte 10
 abbrev pub IsWord : List ℕ → Type 0
-IsWord w = (0 < length w) × (all_pass in_word w ≡ true)
+IsWord w = (0 < length w) × (list_all in_word w ≡ true)
 
 -- where a word stands
 abbrev pub span_of : List ℕ → ℕ → Word
@@ -125,7 +130,7 @@ pub record Front {X : Type 0} (write : X → List ℕ) (Good : X → Type 0) (t 
 -- a number that does not fit begins at byte k, behind the front of a sound line
 pub record Overflow {X : Type 0} (write : X → List ℕ) (Good : X → Type 0) (t : List ℕ) (i k : ℕ) : Type 0 where
   pub front : Front write Good t i k
-  pub over : 2 ^ 32 ≤ value_on 0 (run_at part.Number t k)
+  pub over : 2 ^ 32 ≤ value_on 0 (run_at is_digit t k)
 
 -- what a reading at byte i answers, and where it then stands, against the written form
 pub record Faithful {X A : Type 0} (write : X → List ℕ) (Good : X → Type 0) (value : X → ℕ → A) (t : List ℕ) (i : ℕ) (r : Result A LineFault) (j : ℕ) : Type 0 where

@@ -1,4 +1,5 @@
 // What an access line asks for.
+use std::fmt;
 
 /// An access, or a settle of the whole bus.
 #[derive(Clone, Copy, PartialEq, Eq, Debug)]
@@ -11,4 +12,25 @@ pub enum Access {
     Flush { seat: u32, address: u32 },
     /// Every copy is flushed.
     Settle,
+}
+
+/// The access as its line has it, without the line's end.
+impl fmt::Display for Access {
+    ghost use Rattle.std.specs.Prelude.{Some};
+    ghost use Rattle.trace.specs.Written.{access_text};
+
+    ghost output = { λ access. Some (access_text access) };
+
+    fn fmt<W: fmt::Write>(&self, f: &mut fmt::Formatter<W>) -> fmt::Result {
+        match self {
+            Access::Read { seat, address } => write!(f, "r {seat} {address}"),
+            Access::Write {
+                seat,
+                address,
+                value,
+            } => write!(f, "w {seat} {address} {value}"),
+            Access::Flush { seat, address } => write!(f, "f {seat} {address}"),
+            Access::Settle => f.write_str("s"),
+        }
+    }
 }

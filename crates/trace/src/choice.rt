@@ -5,9 +5,9 @@ ghost use Rattle.trace.specs.Choices.{choice_cells, Chosen, word_refusal, is_tab
 ghost use Rattle.std.proofs.Common.{rules};
 ghost use Rattle.trace.specs.declared.choice.Choice.TheVariants.{Named, Loaded};
 
-use crate::names::published;
 use protocol::{Protocol, Published, Table};
 use refusal::Refusal;
+use std::str;
 
 /// A protocol that every seat follows, and how the text gave it.
 #[derive(Clone, Copy)]
@@ -24,7 +24,7 @@ impl Choice {
         ensures { Answered (word_refusal word.now) (Chosen word.now) result }
     {
         if is_table(word) {
-            Ok(Choice::Loaded(Table::load(word)?))
+            Table::load(word).map(Choice::Loaded)
         } else {
             by_name(word)
         }
@@ -53,13 +53,8 @@ fn by_name(word: &[u8]) -> Result<Choice, Refusal>
     requires { is_table word.now ≡ false }
     ensures { Answered (word_refusal word.now) (Chosen word.now) result }
 {
-    let Ok(name) = std::str::from_utf8(word) else {
-        return Err(Refusal::ProtocolName);
-    };
-    match published(name) {
-        Some(known) => Ok(Choice::Named(known)),
-        None => Err(Refusal::ProtocolName),
-    }
+    let name = str::from_utf8(word).map_err(|_| Refusal::ProtocolName)?;
+    name.parse::<Published>().map(Choice::Named)
 }
 
 impl Protocol for Choice {

@@ -1,11 +1,13 @@
 // The faults of a text: a number's, a line's that keeps it, and the run's that keeps the line's.
-ghost use Rattle.std.specs.Prelude.{◌≡◌};
+ghost use Rattle.std.specs.Prelude.{◌≡◌, Some};
 ghost use Rattle.refusal.specs.Refusals.{told};
 ghost use Rattle.trace.specs.declared.fault.LineFault.TheVariants.{Number as kept_number};
 ghost use Rattle.trace.specs.declared.fault.TraceFault.TheVariants.{Line as kept_line};
-ghost use Rattle.trace.specs.Faults.{number_stop, line_stop, trace_stop};
+ghost use Rattle.trace.specs.Faults.{line_stop, trace_stop, number_text, line_text, trace_text};
 
 use refusal::Refusal;
+use std::error::Error;
+use std::fmt;
 
 /// A number of the text that does not fit 32 bits.
 #[derive(Clone, Copy, PartialEq, Eq, Debug)]
@@ -91,3 +93,43 @@ impl TraceFault {
         }
     }
 }
+
+impl fmt::Display for NumberFault {
+    ghost output = { λ fault. Some (number_text fault) };
+
+    fn fmt<W: fmt::Write>(&self, f: &mut fmt::Formatter<W>) -> fmt::Result {
+        let byte = self.byte;
+        write!(f, "the number at byte {byte} does not fit 32 bits")
+    }
+}
+
+impl fmt::Display for LineFault {
+    ghost output = { λ fault. Some (line_text fault) };
+
+    fn fmt<W: fmt::Write>(&self, f: &mut fmt::Formatter<W>) -> fmt::Result {
+        match self {
+            LineFault::Form { byte } => write!(f, "the line is not sound at byte {byte}"),
+            LineFault::Number(fault) => write!(f, "{fault}"),
+        }
+    }
+}
+
+impl fmt::Display for TraceFault {
+    ghost output = { λ fault. Some (trace_text fault) };
+
+    fn fmt<W: fmt::Write>(&self, f: &mut fmt::Formatter<W>) -> fmt::Result {
+        match self {
+            TraceFault::Line(fault) => write!(f, "{fault}"),
+            TraceFault::Refused { byte, refusal } => {
+                let number = refusal.number();
+                write!(f, "refusal {number} at byte {byte}")
+            }
+        }
+    }
+}
+
+impl Error for NumberFault {}
+
+impl Error for LineFault {}
+
+impl Error for TraceFault {}

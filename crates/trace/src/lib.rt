@@ -7,8 +7,6 @@ mod choice;
 mod fault;
 mod layer;
 mod line_number;
-mod names;
-mod part;
 mod reader;
 mod setup;
 mod value;

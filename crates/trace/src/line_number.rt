@@ -6,13 +6,6 @@ ghost use Rattle.trace.specs.Faults.{line_of};
 pub fn line_of(text: &[u8], byte: usize) -> usize
     ensures { result ≡ line_of text.now byte }
 {
-    let end = byte.min(text.len());
-    let front = &text[0..end];
-    let mut line = 1;
-    for next in front {
-        if *next == b'\n' {
-            line += 1;
-        }
-    }
-    line
+    let front = &text[..byte.min(text.len())];
+    1 + front.iter().filter(|&&next| next == b'\n').count()
 }

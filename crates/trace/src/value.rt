@@ -21,14 +21,10 @@ pub(crate) fn number(digits: &[u8], byte: usize) -> Result<u32, LineFault>
 fn value(digits: &[u8], byte: usize) -> Result<u32, NumberFault>
     ensures { result ≡ fitting digits.now byte }
 {
-    let mut value = 0;
-    for digit in digits {
-        let Some(more) = pushed(value, *digit) else {
-            return Err(NumberFault { byte });
-        };
-        value = more;
-    }
-    Ok(value)
+    digits
+        .iter()
+        .try_fold(0, |value, digit| pushed(value, *digit))
+        .ok_or(NumberFault { byte })
 }
 
 // The value with one more digit behind it, if it still fits.

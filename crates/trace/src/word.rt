@@ -1,4 +1,4 @@
-// Where a word stands.
+// Where a word stands: a borrowed word would hold where it is borrowed from, and no law of reading could name its value.
 
 /// The bytes of a text from `start` to before `end`.
 #[derive(Clone, Copy, PartialEq, Eq, Debug)]

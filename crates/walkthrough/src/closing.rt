@@ -1,63 +1,18 @@
 // What closing gave back: the lines written, the tally, and memory.
+use crate::words::InWords;
 use memory::{Line, Memory};
-use rules::Tally;
+use run::Closed;
 use std::io;
 
 /// The closing of the session.
-pub fn print_closing(
-    rt: &impl Print,
-    written: u32,
-    tally: &Tally,
-    memory: &impl Memory,
-) -> io::Result<()> {
-    println!(rt; "close: {written} lines written back")?;
-    print_accesses(rt, tally)?;
-    print_transactions(rt, tally)?;
-    print_copies(rt, tally)?;
-    print_memory(rt, memory)
-}
-
-fn print_accesses(rt: &impl Print, tally: &Tally) -> io::Result<()> {
-    let Tally {
-        reads,
-        writes,
-        hits,
-        ..
-    } = *tally;
-    println!(rt; "  accesses      reads {reads}, writes {writes}, hits {hits}")
-}
-
-fn print_transactions(rt: &impl Print, tally: &Tally) -> io::Result<()> {
-    let Tally {
-        rs,
-        rx,
-        inv,
-        up,
-        tu,
-        ti,
-        wb,
-        reflected,
-        ..
-    } = *tally;
-    println!(rt;
-        "  transactions  RS {rs}, RX {rx}, IN {inv}, UP {up}, TU {tu}, TI {ti}, WB {wb}, reflected {reflected}"
-    )
-}
-
-fn print_copies(rt: &impl Print, tally: &Tally) -> io::Result<()> {
-    let Tally {
-        fills,
-        displaced,
-        flushed,
-        invalidated,
-        ..
-    } = *tally;
-    println!(rt;
-        "  copies        fills {fills} = displaced {displaced} + flushed {flushed} + invalidated {invalidated}"
-    )
+pub fn print_closing<M: Memory>(rt: &impl Print, closed: &Closed<M>) -> io::Result<()> {
+    println!(rt; "close: {} lines written back", closed.written)?;
+    println!(rt; "{}", InWords(closed.tally))?;
+    print_memory(rt, &closed.memory)
 }
 
 fn print_memory(rt: &impl Print, memory: &impl Memory) -> io::Result<()> {
+    // Lines by number: a memory is asked for one at a time, and lends no slice of them.
     for line in 0..memory.count() {
         if let Ok(words) = memory.read_line(line) {
             print_words(rt, line, words)?;

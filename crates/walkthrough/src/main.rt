@@ -3,19 +3,19 @@
 
 mod calls;
 mod closing;
-mod records;
 mod replies;
+mod words;
 
-use anyhow::anyhow;
 use caches::Agreed;
-use calls::{CALLS, make, print_call};
+use calls::CALLS;
 use closing::print_closing;
 use memory::{Memory, Plain, WriteBuffer};
 use protocol::{Protocol, Published, Split, Table};
-use replies::{NO_RECORD, print_reply};
-use rules::Call;
-use run::{Closed, Run, Step, replay};
+use replies::print_reply;
+use rules::Record;
+use run::{Closed, PLACES_NEEDED, Run, Step, replay};
 use std::io;
+use words::InWords;
 
 fn main(rt: HostRuntime) -> anyhow::Result<()> {
     session(&rt)
@@ -25,15 +25,11 @@ fn main(rt: HostRuntime) -> anyhow::Result<()> {
 fn session(rt: &HostRuntime) -> anyhow::Result<()> {
     println!(rt; "three seats, two sets, eight lines, a write buffer over plain memory")?;
     println!(rt; "seat 0 follows 166SMEMEMSSSSIII, seat 1 berkeley, seat 2 dragon")?;
-    let Ok(agreed) = Agreed::agree(3, 2) else {
-        return Err(anyhow!("the sizes were refused"));
-    };
-    let Ok(table) = Table::load(b"166SMEMEMSSSSIII") else {
-        return Err(anyhow!("the table was refused"));
-    };
-    let protocol = mixture(table);
+    let agreed = Agreed::agree(3, 2)?;
+    let table = Table::load(b"166SMEMEMSSSSIII")?;
     let words = vec![in rt.alloc(); 0u32; 32]?;
-    let (mut run, ticket) = Run::open(agreed, protocol, WriteBuffer::new(Plain::new(words)));
+    let memory = WriteBuffer::new(Plain::new(words));
+    let (mut run, ticket) = Run::open(agreed, mixture(table), memory);
     let printed = play(rt, &mut run);
     let Closed {
         memory,
@@ -41,41 +37,29 @@ fn session(rt: &HostRuntime) -> anyhow::Result<()> {
         written,
     } = run.close(ticket);
     printed?;
-    print_closing(rt, written, &tally, &memory.into_below())?;
+    let closed = Closed {
+        memory: memory.into_below(),
+        tally,
+        written,
+    };
+    print_closing(rt, &closed)?;
     again(rt, agreed, mixture(table))
 }
 
 // Seat 0 follows the table, seat 1 berkeley, seat 2 dragon.
 fn mixture(table: Table) -> Split<Table, Split<Published, Published>> {
-    Split {
-        first: table,
-        below: 1,
-        second: Split {
-            first: Published::Berkeley,
-            below: 2,
-            second: Published::Dragon,
-        },
-    }
+    let others = Split::new(Published::Berkeley, 2, Published::Dragon);
+    Split::new(table, 1, others)
 }
 
 // The same calls once more, as one list.
 fn again<P: Protocol + Drop>(rt: &HostRuntime, agreed: Agreed, protocol: P) -> anyhow::Result<()> {
-    let mut steps = [Step {
-        call: Call::Settle,
-        reply: None,
-    }; 13];
-    for i in 0..CALLS.len() {
-        steps[i].call = CALLS[i];
-    }
+    let mut steps = CALLS.map(|call| Step { call, reply: None });
     let words = vec![in rt.alloc(); 0u32; 32]?;
-    let Closed {
-        memory,
-        tally,
-        written,
-    } = replay(agreed, protocol, Plain::new(words), &mut steps);
+    let closed = replay(agreed, protocol, Plain::new(words), &mut steps);
     println!(rt; "the same calls replayed as one list, over plain memory alone:")?;
     print_replies(rt, &steps)?;
-    print_closing(rt, written, &tally, &memory)?;
+    print_closing(rt, &closed)?;
     Ok(())
 }
 
@@ -94,10 +78,10 @@ fn print_replies(rt: &impl Print, steps: &[Step]) -> io::Result<()> {
 
 // Each call in turn; a refused one is told, and the next is made.
 fn play<P: Protocol, M: Memory>(rt: &impl Print, run: &mut Run<P, M>) -> io::Result<()> {
-    for (index, call) in CALLS.iter().enumerate() {
-        print_call(rt, index, call)?;
-        let mut records = [NO_RECORD; 4];
-        match make(run, call, &mut records) {
+    for (number, call) in (1u64..).zip(CALLS) {
+        println!(rt; "{number:>3}.  {}", InWords(call))?;
+        let mut records = [Record::UNMADE; PLACES_NEEDED];
+        match run.call(call, &mut records) {
             Ok(reply) => print_reply(rt, run, call, &reply, &records)?,
             Err(refusal) => println!(rt; "      refused {}", refusal.number())?,
         }

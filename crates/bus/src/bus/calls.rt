@@ -9,29 +9,34 @@ ghost use Rattle.bus.specs.Totals.{Room};
 ghost use Rattle.bus.specs.Machines.{Reaches};
 
 use super::Bus;
-use crate::answer::Answer;
 use crate::counts::{count_read, count_write};
-use crate::log::{lines_written, log_if};
+use crate::log::Log;
+use crate::records::lines_written;
+use crate::reply::Reply;
+use caches::Store;
 use memory::Memory;
 use protocol::Protocol;
 use rules::Record;
 
+// What is asked of the numbers and the places is a relation to this bus, which no type of theirs can state; a caller's word is a number, and a `Store` from here on.
 impl<P: Protocol, M: Memory> Bus<P, M> {
     /// A seat reads a word: a line that it does not hold is read shared.
-    pub fn read(&mut self, seat: usize, line: usize, word: usize, records: &mut [Record]) -> Answer
-        requires on { seat < self.old.caches.seats }
+    pub fn read(&mut self, seat: usize, line: usize, word: usize, records: &mut [Record]) -> Reply
+        requires on { seat < self.old.caches.agreed.seats }
         requires there { line < length (M.lines self.old.memory) }
         requires within { word < 4 }
         requires room { Room 17 self.old.tally }
         requires places { 4 ≤ length records.old }
-        ensures reaches { Reaches M.lines M.aside (λ m. counting (one_read (holds seat line m)) (fetched (P.cells self.old.protocol) seat line m)) 2 17 0 result.made records.old records.new self.old self.new }
+        ensures reaches { Reaches M.lines M.aside (λ m. counting (one_read (holds seat line m)) (fetched (P.cells self.old.protocol) seat line m)) 2 17 0 result.records records.old records.new self.old self.new }
         ensures value { result.value ≡ slice_index (words_at (copies_of line (caches_of self.new.caches)) seat) word }
     {
         let hit = self.caches.state(seat, line).is_valid();
         let made = self.fetch(seat, line, records);
         count_read(&mut self.tally, hit);
-        let value = self.caches.word(seat, line, word);
-        Answer { value, made }
+        Reply {
+            value: self.caches.word(seat, line, word),
+            records: made,
+        }
     }
 
     /// A seat writes a word, by its state and its cells.
@@ -42,34 +47,39 @@ impl<P: Protocol, M: Memory> Bus<P, M> {
         word: usize,
         value: u32,
         records: &mut [Record],
-    ) -> Answer
-        requires on { seat < self.old.caches.seats }
+    ) -> Reply
+        requires on { seat < self.old.caches.agreed.seats }
         requires there { line < length (M.lines self.old.memory) }
         requires within { word < 4 }
         requires room { Room 31 self.old.tally }
         requires places { 4 ≤ length records.old }
-        ensures reaches { Reaches M.lines M.aside (λ m. counting (one_write (holds seat line m)) (written (P.cells self.old.protocol) seat line word value m)) 4 31 0 result.made records.old records.new self.old self.new }
+        ensures reaches { Reaches M.lines M.aside (λ m. counting (one_write (holds seat line m)) (written (P.cells self.old.protocol) seat line word value m)) 4 31 0 result.records records.old records.new self.old self.new }
         ensures value { result.value ≡ value }
     {
         let hit = self.caches.state(seat, line).is_valid();
-        let made = self.send(seat, line, word, value, records);
+        let mut log = Log::new(records);
+        self.send(seat, line, Store { word, value }, &mut log);
         count_write(&mut self.tally, hit);
-        Answer { value, made }
+        Reply {
+            value,
+            records: log.made(),
+        }
     }
 
     /// A seat drops its copy of a line, if it holds one, after a write back if it is owned.
-    pub fn flush(&mut self, seat: usize, line: usize, records: &mut [Record]) -> Answer
-        requires on { seat < self.old.caches.seats }
+    pub fn flush(&mut self, seat: usize, line: usize, records: &mut [Record]) -> Reply
+        requires on { seat < self.old.caches.agreed.seats }
         requires room { Room 4 self.old.tally }
         requires places { 4 ≤ length records.old }
-        ensures reaches { Reaches M.lines M.aside (flushed seat line) 1 4 0 result.made records.old records.new self.old self.new }
-        ensures value { result.value ≡ result.made }
+        ensures reaches { Reaches M.lines M.aside (flushed seat line) 1 4 0 result.records records.old records.new self.old self.new }
+        ensures value { result.value ≡ result.records }
     {
         let event = self.flush_line(seat, line);
-        let made = log_if(records, 0, event);
-        Answer {
+        let mut log = Log::new(records);
+        log.push_some(event);
+        Reply {
             value: lines_written(event),
-            made,
+            records: log.made(),
         }
     }
 }

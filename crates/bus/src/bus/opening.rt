@@ -5,15 +5,14 @@ ghost use Rattle.rules.specs.Tallies.{blank};
 ghost use Rattle.caches.specs.Views.{caches_of};
 
 use super::Bus;
-use crate::counts::nothing_counted;
 use caches::{Agreed, Caches};
+use rules::Tally;
 
 impl<P, M> Bus<P, M> {
     /// A bus of the agreed sizes, over a protocol and a memory.
     pub fn new(agreed: Agreed, protocol: P, memory: M) -> Bus<P, M>
         ensures caches { caches_of result.caches ≡ replicate agreed.seats (fresh agreed.sets 1) }
-        ensures seats { result.caches.seats ≡ agreed.seats }
-        ensures sets { result.caches.sets ≡ agreed.sets }
+        ensures agreed { result.caches.agreed ≡ agreed }
         ensures tally { result.tally ≡ blank }
         ensures protocol { result.protocol ≡ protocol }
         ensures memory { result.memory ≡ memory }
@@ -22,7 +21,7 @@ impl<P, M> Bus<P, M> {
             protocol,
             memory,
             caches: Caches::new(agreed),
-            tally: nothing_counted(),
+            tally: Tally::default(),
         }
     }
 }

@@ -11,16 +11,16 @@ impl Agreed {
     pub fn agree(seats: u32, sets: u32) -> Result<Agreed, Refusal>
         ensures { Answered (agree_refusal seats sets) (λ a. (a.seats ≡ seats) × (a.sets ≡ sets)) result }
     {
-        if seats < 1 || seats > 8 {
+        if !(1..=8).contains(&seats) {
             return Err(Refusal::Seats);
         }
-        match sets {
-            1 | 2 | 4 | 8 | 16 | 32 | 64 => Ok(Agreed {
-                seats: seats as usize,
-                sets: sets as usize,
-            }),
-            _ => Err(Refusal::Sets),
+        if !matches!(sets, 1 | 2 | 4 | 8 | 16 | 32 | 64) {
+            return Err(Refusal::Sets);
         }
+        Ok(Agreed {
+            seats: seats as usize,
+            sets: sets as usize,
+        })
     }
 
     /// The seats on the bus.

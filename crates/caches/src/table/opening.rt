@@ -12,8 +12,7 @@ impl Caches {
     /// The agreed caches, all empty.
     pub fn new(agreed: Agreed) -> Caches
         ensures caches { caches_of result ≡ replicate agreed.seats (fresh agreed.sets 1) }
-        ensures seats { result.seats ≡ agreed.seats }
-        ensures sets { result.sets ≡ agreed.sets }
+        ensures agreed { result.agreed ≡ agreed }
     {
         let empty = CacheLine {
             state: State::Invalid,
@@ -22,22 +21,21 @@ impl Caches {
         };
         Caches {
             table: [[empty; 64]; 8],
-            seats: agreed.seats(),
-            sets: agreed.sets(),
+            agreed,
         }
     }
 
     /// The seats on the bus.
     pub fn seats(&self) -> usize
-        ensures { result ≡ self.now.seats }
+        ensures { result ≡ self.now.agreed.seats }
     {
-        self.seats
+        self.agreed.seats()
     }
 
     /// The sets of each seat's cache.
     pub fn sets(&self) -> usize
-        ensures { result ≡ self.now.sets }
+        ensures { result ≡ self.now.agreed.sets }
     {
-        self.sets
+        self.agreed.sets()
     }
 }

@@ -4,7 +4,7 @@ ghost use Rattle.protocol.specs.States.{valid};
 ghost use Rattle.rules.specs.Columns.{state_at};
 ghost use Rattle.rules.specs.Caches.{look, put};
 ghost use Rattle.rules.specs.Machines.{copies_of, put_each};
-ghost use Rattle.caches.specs.Hearing.{Within, reaction, heard_by};
+ghost use Rattle.caches.specs.Hearing.{reaction, heard_by};
 ghost use Rattle.caches.specs.Heeding.{noted, Heeds};
 ghost use Rattle.caches.specs.Views.{caches_of};
 
@@ -14,31 +14,7 @@ use crate::heeded::Heeded;
 use protocol::Protocol;
 
 impl Caches {
-    // A held copy reacts: this one element of the table is lent for the change.
-    fn heed<P: Protocol>(
-        &mut self,
-        protocol: &P,
-        seat: usize,
-        line: usize,
-        heard: Heard,
-        heeded: &mut Heeded,
-    )
-        requires on { seat < self.old.seats }
-        requires within { Within heard }
-        requires held { valid (look (slice_index_or (caches_of self.old) seat []) line).state ≡ true }
-        requires few { heeded.old.lost + 1 < 2 ^ 32 }
-        ensures caches { caches_of self.new ≡ slice_set (caches_of self.old) seat (put line (slice_index_or (caches_of self.old) seat []) (reaction (P.cells protocol.now seat) heard (look (slice_index_or (caches_of self.old) seat []) line))) }
-        ensures noted { heeded.new ≡ noted seat (look (slice_index_or (caches_of self.old) seat []) line) (reaction (P.cells protocol.now seat) heard (look (slice_index_or (caches_of self.old) seat []) line)).state heeded.old }
-        ensures seats { self.new.seats ≡ self.old.seats }
-        ensures sets { self.new.sets ≡ self.old.sets }
-    {
-        let at = self.place_of(line);
-        let copy = self.table[seat][at];
-        let after = self.table[seat][at].snoop(protocol, seat, heard);
-        heeded.note(seat, copy, after);
-    }
-
-    // A seat's copy of the line reacts, if there is one.
+    // A held copy of the line reacts: this one element of the table is lent for the change.
     fn turn<P: Protocol>(
         &mut self,
         protocol: &P,
@@ -47,18 +23,17 @@ impl Caches {
         heard: Heard,
         heeded: &mut Heeded,
     )
-        requires on { seat < self.old.seats }
-        requires within { Within heard }
+        requires on { seat < self.old.agreed.seats }
+        requires held { valid (look (slice_index_or (caches_of self.old) seat []) line).state ≡ true }
         requires few { heeded.old.lost + 1 < 2 ^ 32 }
         ensures caches { caches_of self.new ≡ slice_set (caches_of self.old) seat (put line (slice_index_or (caches_of self.old) seat []) (reaction (P.cells protocol.now seat) heard (look (slice_index_or (caches_of self.old) seat []) line))) }
         ensures noted { heeded.new ≡ noted seat (look (slice_index_or (caches_of self.old) seat []) line) (reaction (P.cells protocol.now seat) heard (look (slice_index_or (caches_of self.old) seat []) line)).state heeded.old }
-        ensures seats { self.new.seats ≡ self.old.seats }
-        ensures sets { self.new.sets ≡ self.old.sets }
+        ensures agreed { self.new.agreed ≡ self.old.agreed }
     {
-        if !self.state(seat, line).is_valid() {
-            return;
-        }
-        self.heed(protocol, seat, line, heard, heeded);
+        let at = self.place_of(line);
+        let copy = self.table[seat][at];
+        let after = self.table[seat][at].snoop(protocol, seat, heard);
+        heeded.note(seat, copy, after);
     }
 
     /// Every other seat's copy of the line reacts, seats upward.
@@ -69,17 +44,17 @@ impl Caches {
         line: usize,
         heard: Heard,
     ) -> Heeded
-        requires on { requester < self.old.seats }
-        requires within { Within heard }
+        requires on { requester < self.old.agreed.seats }
         ensures caches { caches_of self.new ≡ put_each line (caches_of self.old) (heard_by (P.cells protocol.now) heard requester (copies_of line (caches_of self.old))) }
         ensures copies { copies_of line (caches_of self.new) ≡ heard_by (P.cells protocol.now) heard requester (copies_of line (caches_of self.old)) }
         ensures answer { Heeds requester (copies_of line (caches_of self.old)) (heard_by (P.cells protocol.now) heard requester (copies_of line (caches_of self.old))) result }
-        ensures seats { self.new.seats ≡ self.old.seats }
-        ensures sets { self.new.sets ≡ self.old.sets }
+        ensures agreed { self.new.agreed ≡ self.old.agreed }
     {
-        let mut heeded = Heeded::none();
-        for seat in 0..self.seats {
-            if seat != requester {
+        let at = self.place_of(line);
+        let mut heeded = Heeded::default();
+        // Seats by number, since each turn changes the table.
+        for seat in 0..self.agreed.seats {
+            if seat != requester && self.state_in(seat, at, line).is_valid() {
                 self.turn(protocol, seat, line, heard, &mut heeded);
             }
         }

@@ -1,33 +1,32 @@
 // Writing a protocol out, and the answers of the table.
 ghost use Rattle.std.specs.Prelude.{◌≡◌, ℕ, ◌<◌, length, slice_index};
-ghost use Rattle.protocol.specs.Flattened.{rows_answer, Alike};
+ghost use Rattle.protocol.specs.Flattened.{rows_answer, RowOf, Alike};
 
 use super::Flattened;
 use crate::cell::Cell;
+use crate::cells::byte_of;
 use crate::interface::Protocol;
+use std::array;
 
 impl Flattened {
     /// Writes a protocol out: the table answers what the protocol does, for each seat that a bus can have.
     pub fn of<P: Protocol>(protocol: &P) -> Flattened
         ensures { Alike (rows_answer result.rows) (P.cells protocol.now) }
     {
-        let mut rows = [[0; 16]; 8];
-        for seat in 0..8 {
-            rows[seat] = row(protocol, seat);
-        }
+        let rows = array::from_fn(
+            |seat| -> [u8; 16]
+                ensures { RowOf (P.cells protocol.entry.now) seat result }
+            { row(protocol, seat) },
+        );
         Flattened { rows }
     }
 }
 
 // A seat's cells.
 fn row<P: Protocol>(protocol: &P, seat: usize) -> [u8; 16]
-    ensures { (k : ℕ) → k < 16 → slice_index result k ≡ P.cells protocol.now seat k }
+    ensures { RowOf (P.cells protocol.now) seat result }
 {
-    let mut cells = [0; 16];
-    for cell in 0..Cell::COUNT {
-        cells[cell as usize] = protocol.cell(seat, cell);
-    }
-    cells
+    Cell::ALL.map(|cell| protocol.cell(seat, cell.number()))
 }
 
 impl Protocol for Flattened {
@@ -36,10 +35,6 @@ impl Protocol for Flattened {
     ghost lawful = { λ f seat k. f.lawful seat k };
 
     fn cell(&self, seat: usize, cell: u8) -> u8 {
-        if cell < Cell::COUNT {
-            self.rows[seat % 8][cell as usize]
-        } else {
-            0
-        }
+        byte_of(&self.rows[seat % 8], cell)
     }
 }

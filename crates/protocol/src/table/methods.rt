@@ -2,10 +2,12 @@
 ghost use Rattle.std.specs.Prelude.{◌≡◌, ◌<◌, true, length, is_ok, MatchOption, slice_index};
 ghost use Rattle.refusal.specs.Refusals.{Answered};
 ghost use Rattle.protocol.specs.Cells.{allowed};
+ghost use Rattle.protocol.specs.CellNames.{cell_number};
 ghost use Rattle.protocol.specs.Tables.{table_refusal, Keeps, FirstFault, FaultTold};
 
 use super::Table;
 use crate::cell::Cell;
+use crate::cells::byte_of;
 use crate::interface::Protocol;
 use refusal::Refusal;
 
@@ -17,16 +19,12 @@ impl Table {
         ensures lawful { Keeps bytes.now → is_ok result ≡ true }
         ensures refused { FaultTold bytes.now result }
     {
-        if bytes.len() != 16 {
-            return Err(Refusal::TableLength);
-        }
-        match first_outside(bytes) {
-            Some(cell) => Err(Refusal::CellOutside { cell }),
-            None => {
-                let mut cells = [0; 16];
-                cells.copy_from_slice(bytes);
-                Ok(Table { cells })
-            }
+        let cells = <[u8; 16]>::try_from(bytes).map_err(|_| Refusal::TableLength)?;
+        match first_outside(&cells) {
+            Some(cell) => Err(Refusal::CellOutside {
+                cell: cell.number(),
+            }),
+            None => Ok(Table { cells }),
         }
     }
 
@@ -38,27 +36,12 @@ impl Table {
     }
 }
 
-// Whether a byte lies in the set of a cell; above the last cell only 0 does.
-fn allows(cell: u8, byte: u8) -> bool
-    ensures { result ≡ allowed cell byte }
-{
-    match Cell::at(cell) {
-        Some(known) => known.allows(byte),
-        None => byte == 0,
-    }
-}
-
 // The first cell that lies outside its set.
-fn first_outside(bytes: &[u8]) -> Option<u8>
-    requires { length bytes.now ≡ 16 }
-    ensures { MatchOption result (Keeps bytes.now) (FirstFault bytes.now) }
+fn first_outside(cells: &[u8; 16]) -> Option<Cell>
+    ensures { MatchOption result (Keeps cells.now) (λ cell. FirstFault cells.now (cell_number cell)) }
 {
-    for cell in 0..Cell::COUNT {
-        if !allows(cell, bytes[cell as usize]) {
-            return Some(cell);
-        }
-    }
-    None
+    let mut all = Cell::ALL.iter().copied();
+    all.find(|cell| !cell.allows(byte_of(cells, cell.number())))
 }
 
 impl Protocol for Table {
@@ -67,10 +50,6 @@ impl Protocol for Table {
     ghost lawful = { λ p seat k. p.lawful k };
 
     fn cell(&self, _seat: usize, cell: u8) -> u8 {
-        if cell < Cell::COUNT {
-            self.cells[cell as usize]
-        } else {
-            0
-        }
+        byte_of(&self.cells, cell)
     }
 }

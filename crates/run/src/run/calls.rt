@@ -5,13 +5,14 @@ ghost use Rattle.run.specs.Calls.{Called};
 
 use super::Run;
 use crate::place::Place;
-use crate::reply::Reply;
+use bus::Reply;
 use memory::Memory;
 use protocol::Protocol;
 use refusal::Refusal;
 use rules::Record;
 
 impl<P: Protocol, M: Memory> Run<P, M> {
+    // Read, write and flush differ in the bus's call between check and count: as a closure's, what it promises would be said twice.
     /// A seat reads the word at an address. Refused with 5, 6, 7 or 8.
     pub fn read(
         &mut self,
@@ -22,13 +23,10 @@ impl<P: Protocol, M: Memory> Run<P, M> {
         ensures { Called P.cells M.lines M.aside (Read seat address (length records.old)) self.old self.new records.old records.new result }
     {
         self.check(seat, address, records.len())?;
-        let at = Place::of(address);
-        let answer = self.bus.read(seat as usize, at.line, at.word, records);
+        let at = Place::from(address);
+        let reply = self.bus.read(seat as usize, at.line, at.word, records);
         self.calls += 1;
-        Ok(Reply {
-            value: answer.value,
-            records: answer.made,
-        })
+        Ok(reply)
     }
 
     /// A seat writes a word at an address. Refused with 5, 6, 7 or 8.
@@ -42,15 +40,12 @@ impl<P: Protocol, M: Memory> Run<P, M> {
         ensures { Called P.cells M.lines M.aside (Write seat address value (length records.old)) self.old self.new records.old records.new result }
     {
         self.check(seat, address, records.len())?;
-        let at = Place::of(address);
-        let answer = self
+        let at = Place::from(address);
+        let reply = self
             .bus
             .write(seat as usize, at.line, at.word, value, records);
         self.calls += 1;
-        Ok(Reply {
-            value: answer.value,
-            records: answer.made,
-        })
+        Ok(reply)
     }
 
     /// A seat drops its copy of the line that an address lies in. Refused with 5, 6, 7 or 8.
@@ -63,13 +58,10 @@ impl<P: Protocol, M: Memory> Run<P, M> {
         ensures { Called P.cells M.lines M.aside (Flush seat address (length records.old)) self.old self.new records.old records.new result }
     {
         self.check(seat, address, records.len())?;
-        let at = Place::of(address);
-        let answer = self.bus.flush(seat as usize, at.line, records);
+        let at = Place::from(address);
+        let reply = self.bus.flush(seat as usize, at.line, records);
         self.calls += 1;
-        Ok(Reply {
-            value: answer.value,
-            records: answer.made,
-        })
+        Ok(reply)
     }
 
     /// Every seat drops every copy. Refused with 5.

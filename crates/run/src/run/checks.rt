@@ -3,7 +3,7 @@ ghost use Rattle.std.specs.Prelude.{ℕ};
 ghost use Rattle.refusal.specs.Refusals.{Answers};
 ghost use Rattle.rules.specs.declared.call.Call.TheVariants.{Settle};
 ghost use Rattle.rules.specs.Systems.{due_in};
-ghost use Rattle.run.specs.Views.{system_of};
+ghost use Rattle.run.specs.Views.{system_of, look_due};
 ghost use Rattle.run.specs.Calls.{access_due};
 
 use super::Run;
@@ -29,17 +29,25 @@ impl<P: Protocol, M: Memory> Run<P, M> {
         Ok(())
     }
 
+    /// The seat is on the bus, and the line in memory.
+    pub(super) fn check_place(&self, seat: usize, line: usize) -> Result<(), Refusal>
+        ensures { Answers (look_due (system_of P.cells M.lines self.now) seat line) tt result }
+    {
+        if seat >= self.seats() {
+            return Err(Refusal::NoSeat);
+        }
+        if line >= self.lines() {
+            return Err(Refusal::BeyondMemory);
+        }
+        Ok(())
+    }
+
     /// Another call may be answered, the seat is on the bus, the address in memory, and there are places enough.
     pub(super) fn check(&self, seat: u32, address: u32, places: usize) -> Result<(), Refusal>
         ensures { Answers (access_due (system_of P.cells M.lines self.now) seat address places) tt result }
     {
         self.check_calls()?;
-        if seat as usize >= self.seats() {
-            return Err(Refusal::NoSeat);
-        }
-        if Place::of(address).line >= self.lines() {
-            return Err(Refusal::BeyondMemory);
-        }
+        self.check_place(seat as usize, Place::from(address).line)?;
         if places < PLACES_NEEDED {
             return Err(Refusal::RecordPlaces);
         }

@@ -1,5 +1,5 @@
 // Closing a run.
-ghost use Rattle.std.specs.Prelude.{◌≡◌, ℕ};
+ghost use Rattle.std.specs.Prelude.{ℕ};
 ghost use Rattle.run.specs.Closings.{Closes};
 
 use super::Run;
@@ -8,16 +8,6 @@ use crate::ticket::Ticket;
 use bus::Bus;
 use memory::Memory;
 use protocol::Protocol;
-
-// The memory with every line settled at the bottom.
-fn drained<M: Memory>(mut memory: M) -> M
-    ensures lines { M.lines result ≡ M.lines memory }
-    ensures settled { M.settled result ≡ M.lines memory }
-    ensures aside { M.aside result ≡ M.aside memory }
-{
-    memory.drain();
-    memory
-}
 
 impl<P: Protocol + Drop, M: Memory> Run<P, M> {
     /// Settles, drains the memory, and gives it back with the tally and the lines written. It is never refused.
@@ -29,12 +19,13 @@ impl<P: Protocol + Drop, M: Memory> Run<P, M> {
         let written = bus.settle();
         let Bus {
             protocol: _,
-            memory,
+            mut memory,
             caches: _,
             tally,
         } = bus;
+        memory.drain();
         Closed {
-            memory: drained(memory),
+            memory,
             tally,
             written,
         }

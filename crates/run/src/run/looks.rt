@@ -43,12 +43,7 @@ impl<P: Protocol, M: Memory> Run<P, M> {
     pub fn state(&self, seat: usize, line: usize) -> Result<State, Refusal>
         ensures { Answers (look_due (system_of P.cells M.lines self.now) seat line) (state_on (system_of P.cells M.lines self.now) line seat) result }
     {
-        if seat >= self.seats() {
-            return Err(Refusal::NoSeat);
-        }
-        if line >= self.lines() {
-            return Err(Refusal::BeyondMemory);
-        }
+        self.check_place(seat, line)?;
         Ok(self.bus.caches.state(seat, line))
     }
 }

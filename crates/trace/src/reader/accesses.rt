@@ -1,7 +1,7 @@
 // Access lines.
 ghost use Rattle.std.specs.Prelude.{◌≡◌};
 ghost use Rattle.trace.specs.Reading.{Reads, Comes};
-ghost use Rattle.trace.specs.Lines.{target_at, read_line_at, write_line_at, flush_line_at, settle_line_at, access_at};
+ghost use Rattle.trace.specs.Lines.{target_at, target_line_at, write_line_at, settle_line_at, access_at};
 ghost use Rattle.trace.specs.Written.{Faithful, written, Sound};
 
 use crate::access::Access;
@@ -11,8 +11,7 @@ use crate::reader::Reader;
 impl Reader<'_> {
     // ` SEAT ADDR`: the seat and the address that an access is for.
     fn target(&mut self) -> Result<(u32, u32), LineFault>
-        ensures comes { Comes (target_at self.old.text.now self.old.at) result self.new.at }
-        ensures text { self.new.text.now ≡ self.old.text.now }
+        ensures { Comes target_at self.old result self.new }
     {
         self.byte(b' ')?;
         let seat = self.number()?;
@@ -21,21 +20,19 @@ impl Reader<'_> {
         Ok((seat, address))
     }
 
-    // `r SEAT ADDR`
-    fn read_line(&mut self) -> Result<Access, LineFault>
-        ensures comes { Comes (read_line_at self.old.text.now self.old.at) result self.new.at }
-        ensures text { self.new.text.now ≡ self.old.text.now }
+    // `LETTER SEAT ADDR`: the target of a line that says no more.
+    fn target_line(&mut self, letter: u8) -> Result<(u32, u32), LineFault>
+        ensures { Comes (target_line_at letter) self.old result self.new }
     {
-        self.byte(b'r')?;
-        let (seat, address) = self.target()?;
+        self.byte(letter)?;
+        let target = self.target()?;
         self.byte(b'\n')?;
-        Ok(Access::Read { seat, address })
+        Ok(target)
     }
 
     // `w SEAT ADDR VALUE`
     fn write_line(&mut self) -> Result<Access, LineFault>
-        ensures comes { Comes (write_line_at self.old.text.now self.old.at) result self.new.at }
-        ensures text { self.new.text.now ≡ self.old.text.now }
+        ensures { Comes write_line_at self.old result self.new }
     {
         self.byte(b'w')?;
         let (seat, address) = self.target()?;
@@ -49,21 +46,9 @@ impl Reader<'_> {
         })
     }
 
-    // `f SEAT ADDR`
-    fn flush_line(&mut self) -> Result<Access, LineFault>
-        ensures comes { Comes (flush_line_at self.old.text.now self.old.at) result self.new.at }
-        ensures text { self.new.text.now ≡ self.old.text.now }
-    {
-        self.byte(b'f')?;
-        let (seat, address) = self.target()?;
-        self.byte(b'\n')?;
-        Ok(Access::Flush { seat, address })
-    }
-
     // `s`
     fn settle_line(&mut self) -> Result<Access, LineFault>
-        ensures comes { Comes (settle_line_at self.old.text.now self.old.at) result self.new.at }
-        ensures text { self.new.text.now ≡ self.old.text.now }
+        ensures { Comes settle_line_at self.old result self.new }
     {
         self.byte(b's')?;
         self.byte(b'\n')?;
@@ -72,13 +57,16 @@ impl Reader<'_> {
 
     // The first word decides the line.
     fn access_line(&mut self) -> Result<Access, LineFault>
-        ensures comes { Comes (access_at self.old.text.now self.old.at) result self.new.at }
-        ensures text { self.new.text.now ≡ self.old.text.now }
+        ensures { Comes access_at self.old result self.new }
     {
         match self.peek() {
-            Some(b'r') => self.read_line(),
+            Some(b'r') => self
+                .target_line(b'r')
+                .map(|(seat, address)| Access::Read { seat, address }),
             Some(b'w') => self.write_line(),
-            Some(b'f') => self.flush_line(),
+            Some(b'f') => self
+                .target_line(b'f')
+                .map(|(seat, address)| Access::Flush { seat, address }),
             Some(b's') => self.settle_line(),
             _ => Err(LineFault::Form { byte: self.at }),
         }
@@ -86,10 +74,10 @@ impl Reader<'_> {
 
     /// Reads an access line.
     pub fn access(&mut self) -> Result<Access, LineFault>
-        ensures reads { Reads (access_at self.old.text.now self.old.at) self.old.at result self.new.at }
+        ensures reads { Reads access_at self.old result self.new }
         ensures faithful { Faithful written Sound (λ x _. x) self.old.text.now self.old.at result self.new.at }
-        ensures text { self.new.text.now ≡ self.old.text.now }
     {
+        // A fault leaves the reader where it stood. `bus_line` has these lines too: over what is read, they would need what it leaves.
         let mut ahead = *self;
         let access = ahead.access_line()?;
         *self = ahead;

@@ -12,18 +12,17 @@ use crate::word::Word;
 impl Reader<'_> {
     // `bus`
     fn bus_word(&mut self) -> Result<(), LineFault>
-        ensures comes { Comes (bus_word_at self.old.text.now self.old.at) result self.new.at }
-        ensures text { self.new.text.now ≡ self.old.text.now }
+        ensures { Comes bus_word_at self.old result self.new }
     {
-        self.byte(b'b')?;
-        self.byte(b'u')?;
-        self.byte(b's')
+        for letter in b"bus" {
+            self.byte(*letter)?;
+        }
+        Ok(())
     }
 
     // ` NUMBER`
     fn numeral(&mut self) -> Result<Numeral, LineFault>
-        ensures comes { Comes (numeral_at self.old.text.now self.old.at) result self.new.at }
-        ensures text { self.new.text.now ≡ self.old.text.now }
+        ensures { Comes numeral_at self.old result self.new }
     {
         self.byte(b' ')?;
         let byte = self.at;
@@ -33,8 +32,7 @@ impl Reader<'_> {
 
     // ` WORD`
     fn spaced_word(&mut self) -> Result<Word, LineFault>
-        ensures comes { Comes (spaced_word_at self.old.text.now self.old.at) result self.new.at }
-        ensures text { self.new.text.now ≡ self.old.text.now }
+        ensures { Comes spaced_word_at self.old result self.new }
     {
         self.byte(b' ')?;
         self.word()
@@ -42,8 +40,7 @@ impl Reader<'_> {
 
     // The end of the line, where nothing follows P.
     fn line_end(&mut self) -> Result<Option<Second>, LineFault>
-        ensures comes { Comes (last_at self.old.text.now self.old.at) result self.new.at }
-        ensures text { self.new.text.now ≡ self.old.text.now }
+        ensures { Comes last_at self.old result self.new }
     {
         self.byte(b'\n')?;
         Ok(None)
@@ -51,8 +48,7 @@ impl Reader<'_> {
 
     // ` B Q` and the end of the line.
     fn second(&mut self) -> Result<Option<Second>, LineFault>
-        ensures comes { Comes (second_at self.old.text.now self.old.at) result self.new.at }
-        ensures text { self.new.text.now ≡ self.old.text.now }
+        ensures { Comes second_at self.old result self.new }
     {
         self.byte(b' ')?;
         let below = self.number()?;
@@ -63,8 +59,7 @@ impl Reader<'_> {
 
     // What follows P.
     fn tail(&mut self) -> Result<Option<Second>, LineFault>
-        ensures comes { Comes (tail_at self.old.text.now self.old.at) result self.new.at }
-        ensures text { self.new.text.now ≡ self.old.text.now }
+        ensures { Comes tail_at self.old result self.new }
     {
         match self.peek() {
             Some(b' ') => self.second(),
@@ -74,10 +69,10 @@ impl Reader<'_> {
 
     // The line, part by part.
     fn bus_parts(&mut self) -> Result<BusLine, LineFault>
-        ensures comes { Comes (bus_at self.old.text.now self.old.at) result self.new.at }
-        ensures text { self.new.text.now ≡ self.old.text.now }
+        ensures { Comes bus_at self.old result self.new }
     {
         self.bus_word()?;
+        // Three numbers, each with a name of its own.
         let seats = self.numeral()?;
         let sets = self.numeral()?;
         let lines = self.numeral()?;
@@ -94,9 +89,8 @@ impl Reader<'_> {
 
     /// Reads a bus line.
     pub fn bus_line(&mut self) -> Result<BusLine, LineFault>
-        ensures reads { Reads (bus_at self.old.text.now self.old.at) self.old.at result self.new.at }
+        ensures reads { Reads bus_at self.old result self.new }
         ensures faithful { Faithful written_bus SoundBus bus_line_of self.old.text.now self.old.at result self.new.at }
-        ensures text { self.new.text.now ≡ self.old.text.now }
     {
         let mut ahead = *self;
         let line = ahead.bus_parts()?;

@@ -1,11 +1,10 @@
 // The parts of a line: a byte, a number, a word.
-ghost use Rattle.std.specs.Prelude.{◌≡◌, ◌+◌, ◌<◌, ◌≤◌, true, length, drop, MatchOption};
-ghost use Rattle.std.specs.List.{prefix_len};
-ghost use Rattle.trace.specs.Reading.{Reads, next_at, is_byte, byte_at, number_at, word_at};
-ghost use Rattle.trace.specs.Runs.{stands};
+ghost use Rattle.std.specs.Prelude.{◌≡◌, ◌+◌, ◌<◌, ◌≤◌, length, drop, MatchOption};
+ghost use Rattle.trace.specs.Choices.{is_digit};
+ghost use Rattle.trace.specs.Reading.{Reads, next_at, byte_at, number_at, word_at};
+ghost use Rattle.trace.specs.Runs.{in_word, run_at};
 
 use crate::fault::LineFault;
-use crate::part::Part;
 use crate::reader::Reader;
 use crate::value::number;
 use crate::word::Word;
@@ -18,47 +17,49 @@ impl<'a> Reader<'a> {
         Reader { text, at: 0 }
     }
 
-    // Where the longest run of bytes of the part ends.
-    fn run_end(&self, part: Part) -> usize
-        ensures value { result ≡ self.now.at + prefix_len (stands part) (drop self.now.at self.now.text.now) }
+    // What is left of the text.
+    fn rest(&self) -> &'a [u8]
+        ensures { result.now ≡ drop self.now.at self.now.text.now }
+    {
+        &self.text[self.at..]
+    }
+
+    // Where the digits from here on end. It shares with `word_end` the chain alone: over a test as a parameter, each would say what its test computes.
+    fn number_end(&self) -> usize
+        ensures value { result ≡ self.now.at + length (run_at is_digit self.now.text.now self.now.at) }
         ensures within { result ≤ length self.now.text.now }
     {
-        let mut end = self.at;
-        while end < self.text.len() && part.takes(self.text[end]) {
-            end += 1;
-        }
-        end
+        let digits = self.rest().iter().take_while(|byte| byte.is_ascii_digit());
+        self.at + digits.count()
+    }
+
+    // Where the bytes of a word from here on end: any bytes but a space and byte 10.
+    fn word_end(&self) -> usize
+        ensures value { result ≡ self.now.at + length (run_at in_word self.now.text.now self.now.at) }
+        ensures within { result ≤ length self.now.text.now }
+    {
+        let word = self
+            .rest()
+            .iter()
+            .take_while(|&&byte| byte != b' ' && byte != b'\n');
+        self.at + word.count()
     }
 
     /// The next byte, if the text does not end here.
+    #[tactic(auto, unfolding(crate::specs::Reading::next_at))]
     pub fn peek(&self) -> Option<u8>
         ensures value { result ≡ next_at self.now.text.now self.now.at }
         ensures within { MatchOption result (self.now.at ≡ length self.now.text.now) (λ _. self.now.at < length self.now.text.now) }
     {
-        if self.at < self.text.len() {
-            Some(self.text[self.at])
-        } else {
-            None
-        }
-    }
-
-    // Whether this byte comes next.
-    fn is_next(&self, byte: u8) -> bool
-        ensures value { result ≡ is_byte byte (next_at self.now.text.now self.now.at) }
-        ensures within { result ≡ true → self.now.at < length self.now.text.now }
-    {
-        match self.peek() {
-            Some(next) => next == byte,
-            None => false,
-        }
+        self.rest().first().copied()
     }
 
     /// Reads this byte.
+    #[tactic(auto, unfolding(crate::specs::Reading::byte_at))]
     pub fn byte(&mut self, byte: u8) -> Result<(), LineFault>
-        ensures reads { Reads (byte_at byte self.old.text.now self.old.at) self.old.at result self.new.at }
-        ensures text { self.new.text.now ≡ self.old.text.now }
+        ensures { Reads (byte_at byte) self.old result self.new }
     {
-        if !self.is_next(byte) {
+        if self.peek() != Some(byte) {
             return Err(LineFault::Form { byte: self.at });
         }
         self.at += 1;
@@ -66,23 +67,23 @@ impl<'a> Reader<'a> {
     }
 
     /// Reads a number.
+    #[tactic(auto, unfolding(crate::specs::Reading::number_at))]
     pub fn number(&mut self) -> Result<u32, LineFault>
-        ensures reads { Reads (number_at self.old.text.now self.old.at) self.old.at result self.new.at }
-        ensures text { self.new.text.now ≡ self.old.text.now }
+        ensures { Reads number_at self.old result self.new }
     {
-        let end = self.run_end(Part::Number);
+        let end = self.number_end();
         let number = number(&self.text[self.at..end], self.at)?;
         self.at = end;
         Ok(number)
     }
 
     /// Reads a word.
+    #[tactic(auto, unfolding(crate::specs::Reading::word_at))]
     pub fn word(&mut self) -> Result<Word, LineFault>
-        ensures reads { Reads (word_at self.old.text.now self.old.at) self.old.at result self.new.at }
-        ensures text { self.new.text.now ≡ self.old.text.now }
+        ensures { Reads word_at self.old result self.new }
     {
         let start = self.at;
-        let end = self.run_end(Part::Word);
+        let end = self.word_end();
         if end == start {
             return Err(LineFault::Form { byte: start });
         }

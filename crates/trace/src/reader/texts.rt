@@ -1,15 +1,14 @@
 // A whole text: its bus line, then its access lines.
 ghost use Rattle.std.specs.Prelude.{◌≡◌};
 ghost use Rattle.trace.specs.Faults.{line_of};
-ghost use Rattle.trace.specs.Setups.{Settled};
-ghost use Rattle.trace.specs.Texts.{open_stop, Opened, Held, NextRead, Counted, AccessLaws};
+ghost use Rattle.trace.specs.Texts.{Opens, ReadsNext, Counted, AccessLaws};
 
 use crate::access::Access;
 use crate::fault::TraceFault;
 use crate::line_number::line_of;
 use crate::reader::Reader;
 use crate::setup::Setup;
-use crate::setup::checks::checked;
+use crate::setup::checks::Checks;
 use refusal::Refusal;
 
 /// The most bytes that a text may have.
@@ -32,9 +31,7 @@ impl Reader<'_> {
 
     /// Reads and checks the bus line of a text.
     pub fn setup(&mut self) -> Result<Setup, TraceFault>
-        ensures settled { Settled (open_stop self.old.text.now self.old.at) (Opened self.old.text.now self.old.at self.new.at) result }
-        ensures held { Held result (self.new.at ≡ self.old.at) }
-        ensures text { self.new.text.now ≡ self.old.text.now }
+        ensures { Opens self.old result self.new }
     {
         if self.text.len() > LONGEST {
             return Err(TraceFault::Refused {
@@ -44,21 +41,23 @@ impl Reader<'_> {
         }
         let mut ahead = *self;
         let line = ahead.bus_line()?;
-        let setup = checked(self.text, &line)?;
+        let checks = Checks {
+            text: self.text,
+            line,
+        };
+        let setup = checks.setup()?;
         *self = ahead;
         Ok(setup)
     }
 
     /// Reads the next access line, if the text does not end here.
     pub fn next_access(&mut self) -> Result<Option<Access>, TraceFault>
-        ensures reads { NextRead self.old.text.now self.old.at result self.new.at }
-        ensures text { self.new.text.now ≡ self.old.text.now }
+        ensures { ReadsNext self.old result self.new }
     {
         if self.at == self.text.len() {
             return Ok(None);
         }
-        let access = self.access()?;
-        Ok(Some(access))
+        Ok(Some(self.access()?))
     }
 
     /// How many access lines follow, if all of them are sound.
@@ -67,6 +66,7 @@ impl Reader<'_> {
         ensures laws { AccessLaws self.now.text.now self.now.at }
     {
         let mut ahead = *self;
+        // The reader is no iterator: what ends it may be a fault.
         let mut count = 0;
         while let Some(_) = ahead.next_access()? {
             count += 1;

@@ -1,6 +1,5 @@
 // The checks of a bus line, in their order.
-ghost use Rattle.std.specs.Prelude.{◌≡◌, ◌<◌, ◌≤◌, if◌then◌else◌, nat_eq};
-ghost use Rattle.refusal.specs.Refusals.{number};
+ghost use Rattle.std.specs.Prelude.{◌≡◌, ◌<◌, ◌≤◌};
 ghost use Rattle.trace.specs.Choices.{Chosen};
 ghost use Rattle.trace.specs.Setups.{Settled, sizes_stop, lines_stop, word_stop, second_stop, setup_stop, word_in, Inside, InsideSecond, Divided, Given};
 
@@ -12,26 +11,67 @@ use crate::word::Word;
 use caches::Agreed;
 use refusal::Refusal;
 
-// The word that a refusal of the sizes is for.
-fn sizes_byte(line: &BusLine, refusal: Refusal) -> usize
-    ensures { result ≡ (if nat_eq (number refusal) 1 then line.now.seats.byte else line.now.sets.byte) }
-{
-    match refusal {
-        Refusal::Seats => line.seats.byte,
-        _ => line.sets.byte,
-    }
+/// A bus line and the text that its words lie in.
+#[derive(Clone, Copy)]
+pub(crate) struct Checks<'a> {
+    pub(crate) text: &'a [u8],
+    pub(crate) line: BusLine,
+    ghost first: { Inside text.now line.first },
+    ghost second: { InsideSecond text.now line.second },
 }
 
-// The seats and sets of a bus line.
-fn sizes(line: &BusLine) -> Result<Agreed, TraceFault>
-    ensures { Settled (sizes_stop line.now) (λ a. (a.seats ≡ line.now.seats.value) × (a.sets ≡ line.now.sets.value)) result }
-{
-    match Agreed::agree(line.seats.value, line.sets.value) {
-        Ok(agreed) => Ok(agreed),
-        Err(refusal) => Err(TraceFault::Refused {
-            byte: sizes_byte(line, refusal),
+impl Checks<'_> {
+    // The seats and sets of the bus line.
+    fn sizes(&self) -> Result<Agreed, TraceFault>
+        ensures { Settled (sizes_stop self.now.line) (λ a. (a.seats ≡ self.now.line.seats.value) × (a.sets ≡ self.now.line.sets.value)) result }
+    {
+        let BusLine { seats, sets, .. } = self.line;
+        Agreed::agree(seats.value, sets.value).map_err(|refusal| TraceFault::Refused {
+            byte: match refusal {
+                Refusal::Seats => seats.byte,
+                _ => sets.byte,
+            },
             refusal,
-        }),
+        })
+    }
+
+    // The protocol that a word chooses.
+    fn chosen(&self, word: Word) -> Result<Choice, TraceFault>
+        requires { Inside self.now.text.now word }
+        ensures { Settled (word_stop self.now.text.now word) (Chosen (word_in self.now.text.now word)) result }
+    {
+        let Word { start, end } = word;
+        Choice::read(&self.text[start..end]).map_err(|refusal| TraceFault::Refused {
+            byte: start,
+            refusal,
+        })
+    }
+
+    // B and the protocol of Q, where they are given.
+    fn division(&self) -> Result<Option<Division>, TraceFault>
+        ensures { Settled (second_stop self.now.text.now self.now.line.second) (Divided self.now.text.now self.now.line.second) result }
+    {
+        let Some(Second { below, word }) = self.line.second else {
+            return Ok(None);
+        };
+        let second = self.chosen(word)?;
+        Ok(Some(Division { below, second }))
+    }
+
+    /// The setup that the bus line gives.
+    pub(crate) fn setup(&self) -> Result<Setup, TraceFault>
+        ensures { Settled (setup_stop self.now.text.now self.now.line) (Given self.now.text.now self.now.line) result }
+    {
+        let agreed = self.sizes()?;
+        let lines = memory_lines(self.line.lines)?;
+        let first = self.chosen(self.line.first)?;
+        let division = self.division()?;
+        Ok(Setup {
+            agreed,
+            lines,
+            first,
+            division,
+        })
     }
 }
 
@@ -46,51 +86,4 @@ fn memory_lines(lines: Numeral) -> Result<u32, TraceFault>
             refusal: Refusal::TextMemory,
         }),
     }
-}
-
-// The protocol that a word chooses.
-fn chosen(text: &[u8], word: Word) -> Result<Choice, TraceFault>
-    requires { Inside text.now word }
-    ensures { Settled (word_stop text.now word) (Chosen (word_in text.now word)) result }
-{
-    let Word { start, end } = word;
-    match Choice::read(&text[start..end]) {
-        Ok(choice) => Ok(choice),
-        Err(refusal) => Err(TraceFault::Refused {
-            byte: start,
-            refusal,
-        }),
-    }
-}
-
-// B and the protocol of Q, where they are given.
-fn division(text: &[u8], second: Option<Second>) -> Result<Option<Division>, TraceFault>
-    requires { InsideSecond text.now second }
-    ensures { Settled (second_stop text.now second) (Divided text.now second) result }
-{
-    match second {
-        None => Ok(None),
-        Some(Second { below, word }) => Ok(Some(Division {
-            below,
-            second: chosen(text, word)?,
-        })),
-    }
-}
-
-/// The setup that a bus line of the text gives.
-pub(crate) fn checked(text: &[u8], line: &BusLine) -> Result<Setup, TraceFault>
-    requires first { Inside text.now line.now.first }
-    requires second { InsideSecond text.now line.now.second }
-    ensures { Settled (setup_stop text.now line.now) (Given text.now line.now) result }
-{
-    let agreed = sizes(line)?;
-    let lines = memory_lines(line.lines)?;
-    let first = chosen(text, line.first)?;
-    let division = division(text, line.second)?;
-    Ok(Setup {
-        agreed,
-        lines,
-        first,
-        division,
-    })
 }

@@ -1,7 +1,7 @@
 -- Each turn makes one call more, and what closing gives squares with the ledger after them all.
 use Rattle.std.proofs.Common.{◌≡◌, length, ap, ◌∙◌, arith}
 use Rattle.rules.specs.Systems.{System, closed}
-use Rattle.run.proofs.Replaying.{no_progress, more-progress, last-system, all-replies}
+use Rattle.run.proofs.Replaying.{more-progress, last-system, all-replies}
 use Rattle.run.proofs.Wholes.{whole}
 use Rattle.run.proofs.replays.replay.Goals as goal
 
@@ -10,9 +10,6 @@ loop-step-preserved g c =
     more-progress g.P.Protocol.cells g.M.Memory.lines g.M.Memory.aside c.open-run.result.0 c.loop-step.run c.args.steps.now c.loop-step.steps
     c.loop-step.step-index c.loop-step.invariant c.loop-step-test.true c.loop-step.auto.steps c.make.new.self c.make.result
     c.make.ensures.replies c.make.ensures.system c.make.ensures.aside
-
-pub loop-step-init : goal.loop-step-init
-loop-step-init g c = no_progress g.P.Protocol.cells g.M.Memory.lines g.M.Memory.aside c.open-run.result.0 c.open-run.result.0 c.args.steps.now c.args.steps.now
 
 pub returns : goal.returns
 returns g c =

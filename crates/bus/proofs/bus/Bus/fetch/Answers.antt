@@ -1,39 +1,25 @@
-use Rattle.std.proofs.Common.{◌≡◌, true, false, take, sym, arith, rules}
-use Rattle.protocol.specs.States.{valid}
-use Rattle.rules.specs.Columns.{state_at}
-use Rattle.rules.specs.Machines.{copies_of}
-use Rattle.caches.specs.Views.{caches_of}
-use Rattle.bus.specs.Machines.{machine_of}
+use Rattle.std.proofs.Common.{take, sym, arith, rules}
+use Rattle.rules.specs.Accesses.{fetched}
+use Rattle.bus.specs.Machines.{machine_of, Holds, Lacks, Tells}
 use Rattle.bus.proofs.Cases.{fetched-held, fetched-absent}
-use Rattle.bus.proofs.Obeying.{nothing, unlogged, renamed}
+use Rattle.bus.proofs.Obeying.{unmoved, renamed}
 use Rattle.bus.proofs.bus.Bus.fetch.Goals as goal
 
-pub returns-then-is_valid : goal.returns-then-is_valid
-returns-then-is_valid g c =
-    let lines = g.M.Memory.lines in
-    let aside = g.M.Memory.aside in
+pub returns-then-is_valid-clause-reaches : goal.returns-then-is_valid-clause-reaches
+returns-then-is_valid-clause-reaches g c =
     let b = c.args.self.now in
-    let m = machine_of lines (take 0 c.args.records.now) b in
-    let held : valid (state_at (copies_of c.args.line (caches_of b.caches)) c.args.seat) ≡ true = search rules in
-    record {
-      reaches =
-          renamed lines aside (unlogged lines aside 0 c.args.records.now (nothing lines aside b))
-          (sym (fetched-held c.args.seat c.args.line m (g.P.Protocol.cells b.protocol) held))
-          (omega arith) (omega arith);
-      held = held;
-    }
+    let records = c.args.records.now in
+    let held : Holds c.args.seat c.args.line b.caches = search rules in
+    unmoved g.M.Memory.lines g.M.Memory.aside b 0 records
+    (sym (fetched-held c.args.seat c.args.line (machine_of g.M.Memory.lines (take 0 records) b) (g.P.Protocol.cells b.protocol) held))
 
-pub returns : goal.returns
-returns g c =
-    let lines = g.M.Memory.lines in
-    let aside = g.M.Memory.aside in
+pub returns-clause-reaches : goal.returns-clause-reaches
+returns-clause-reaches g c =
     let b = c.args.self.now in
-    let m = machine_of lines (take 0 c.args.records.now) b in
-    let absent : valid (state_at (copies_of c.args.line (caches_of b.caches)) c.args.seat) ≡ false = search rules in
-    record {
-      reaches =
-          renamed lines aside c.fill.ensures.reaches
-          (sym (fetched-absent c.args.seat c.args.line m (g.P.Protocol.cells b.protocol) absent))
-          (omega arith) (omega arith);
-      held = c.fill.ensures.held;
-    }
+    let log = c.new-log.result in
+    let absent : Lacks c.args.seat c.args.line b.caches = search rules in
+    let told : Tells g.M.Memory.lines g.M.Memory.aside (fetched (g.P.Protocol.cells b.protocol) c.args.seat c.args.line) 2 15 log c.fill.new.log b c.fill.new.self =
+    renamed g.M.Memory.lines g.M.Memory.aside c.fill.ensures.told
+    (sym (fetched-absent c.args.seat c.args.line (machine_of g.M.Memory.lines (take log.made log.places.now) b) (g.P.Protocol.cells b.protocol) absent))
+    (omega arith) (omega arith) in
+    search rules

@@ -26,6 +26,6 @@ returns g c =
     let b = c.args.self.now in
     let held : valid (state_at (copies_of c.args.line (caches_of b.caches)) c.args.seat) ≡ true = search rules in
     named lines aside
-    (after lines aside c.let_go-event.ensures.obeys (counts lines aside one_flushed 1 c.let_go-event.new.self c.count_flushed.new.tally c.count_flushed.ensures.value c.count_flushed.ensures.most))
+    (after lines aside c.let_go-event.ensures.obeys (counts lines aside one_flushed 1 c.let_go-event.new.self (one_flushed c.let_go-event.new.self.tally) refl (omega arith)))
     (λ es. sym (flushed-held c.args.seat c.args.line (machine_of lines es b) held))
     (append-nil (listed c.let_go-event.result)) (omega arith)

@@ -1,70 +1,37 @@
-use Rattle.std.proofs.Common.{◌≡◌, ℕ, Bool, false, not, get_or, set, refl, ap, ◌∙◌, arith, rules}
+use Rattle.std.proofs.Common.{refl, set}
 use Rattle.protocol.specs.declared.state.State.TheVariants.{Modified}
 use Rattle.protocol.specs.declared.transaction.Transaction.TheVariants.{Invalidate}
-use Rattle.protocol.specs.States.{valid}
-use Rattle.rules.specs.declared.record.Record.{Record}
-use Rattle.rules.specs.declared.record.Supplier.TheVariants.{Nobody}
-use Rattle.rules.specs.Columns.{Copy, kept, none, alone, words_at}
-use Rattle.rules.specs.Tallies.{tallied}
-use Rattle.rules.specs.Transactions.{invalidate, gone, same, hear}
-use Rattle.rules.specs.Machines.{copies_of, put_each}
+use Rattle.rules.specs.Columns.{kept, words_at}
+use Rattle.rules.specs.Transactions.{invalidate}
+use Rattle.rules.specs.Machines.{copies_of}
+use Rattle.caches.specs.declared.heard.Heard.TheVariants as heard
 use Rattle.caches.specs.Views.{caches_of}
-use Rattle.bus.proofs.Counting.{alone-own, not-not}
-use Rattle.bus.proofs.Parts.{transact-is, home_stays}
-use Rattle.bus.proofs.Reacted.{told-shared, told-lost}
-use Rattle.bus.proofs.Requests.{own-after, copy-after}
+use Rattle.bus.proofs.Parts.{home_stays}
+use Rattle.bus.proofs.Telling.{Reacts, holds, written, obeyed}
 use Rattle.bus.proofs.bus.Bus.invalidate.Goals as goal
 
-pub write-requires : goal.write-requires
-write-requires g c =
-    let cell = g.P.Protocol.cells c.args.self.now.protocol in
-    record {
-      on = search rules;
-      held =
-          ap (λ (y : Copy). valid y.state)
-          (copy-after c.args.self.now.caches c.args.line c.args.seat c.requires.on (λ k. gone) same
-          (caches_of c.react-heeded.new.self) c.react-heeded.ensures.caches c.react-heeded.ensures.copies)
-          ∙ c.requires.held;
-      within = c.requires.within;
-    }
+pub write-requires-clause-held : goal.write-requires-clause-held
+write-requires-clause-held g c =
+    let b = c.args.self.now in
+    let a = c.react-heeded in
+    let p : Reacts b.caches c.args.line c.args.seat (g.P.Protocol.cells b.protocol) heard.Invalidate a.new.self a.result = record { on = c.requires.on; moved = a.ensures.caches; copies = a.ensures.copies; told = a.ensures.answer; same = a.ensures.agreed } in
+    holds p c.requires.held
 
 pub returns : goal.returns
 unfolding invalidate
 returns g c =
     let b = c.args.self.now in
     let lines = g.M.Memory.lines in
-    let ls = lines b.memory in
+    let aside = g.M.Memory.aside in
     let cell = g.P.Protocol.cells b.protocol in
     let seat = c.args.seat in
     let line = c.args.line in
-    let word = c.args.word in
-    let value = c.args.value in
-    let cs = caches_of b.caches in
-    let xs = copies_of line cs in
-    let ys = hear (λ k. gone) same 0 xs in
-    let w = get_or xs seat none in
-    let a = c.react-heeded.result in
-    let told = c.react-heeded.ensures.answer in
-    let cs₁ = caches_of c.react-heeded.new.self in
-    let mine = copy-after b.caches line seat c.requires.on (λ k. gone) same cs₁ c.react-heeded.ensures.caches c.react-heeded.ensures.copies in
-    let lone : not a.shared ≡ alone seat ys = ap not told.shared ∙ not-not (alone seat (set ys seat w)) ∙ alone-own seat ys w in
-    let x = kept Modified (set (words_at xs seat) word value) in
-    let event : Bool → Record = λ s. record { transaction = Invalidate; seat = seat; line = line; shared = s; reflected = false; supplier = Nobody } in
-    record {
-      machine =
-          transact-is cs ls b.tally line (invalidate seat word value) Invalidate seat
-          (event a.shared) (caches_of c.write.new.self) ls c.count_transaction.new.tally
-          (own-after b.caches line seat c.requires.on (λ k. gone) same cs₁ c.react-heeded.ensures.caches (caches_of c.write.new.self) x
-          (c.write.ensures.caches ∙ ap (λ (y : Copy). put_each line cs₁ (set (copies_of line cs₁) seat (kept Modified (set y.words word value)))) mine))
-          (home_stays ls line)
-          (ap event (told-shared seat xs ys w a told x))
-          (c.count_transaction.ensures.value ∙ ap (λ (n : ℕ). tallied (event a.shared) n b.tally) (told-lost seat xs ys w a told x));
-      stays = record {
-        grown = omega (arith, c.count_transaction.ensures.most, told.few);
-        protocol = refl;
-        apart = refl;
-        count = refl;
-        seats = c.write.ensures.seats ∙ c.react-heeded.ensures.seats;
-        sets = c.write.ensures.sets ∙ c.react-heeded.ensures.sets;
-      };
-    }
+    let store = c.args.store in
+    let a = c.react-heeded in
+    let p : Reacts b.caches line seat cell heard.Invalidate a.new.self a.result = record { on = c.requires.on; moved = a.ensures.caches; copies = a.ensures.copies; told = a.ensures.answer; same = a.ensures.agreed } in
+    obeyed lines aside b p
+    Invalidate (invalidate seat store.word store.value) (kept Modified (set (words_at (copies_of line (caches_of b.caches)) seat) store.word store.value)) _ refl
+    c.unsupplied-event.result c.tell.result c.write.new.self b.memory c.tell.new.tally
+    c.tell.ensures.event c.unsupplied-event.ensures
+    (written p Modified store.word store.value c.write.new.self c.write.ensures.caches)
+    c.write.ensures.agreed (home_stays (lines b.memory) line) refl c.tell.ensures.value c.tell.ensures.most

@@ -1,30 +1,10 @@
-use Rattle.std.proofs.Common.{◌≡◌, ℕ, ◌≤◌, length, sym, refl, ap, add-one, arith}
+use Rattle.std.proofs.Common.{◌≡◌, ℕ, ◌≤◌, length, sym, ap, add-one, arith}
 use Rattle.rules.specs.Accesses.{flushed_seats, settled}
 use Rattle.caches.specs.Views.{caches_of}
 use Rattle.caches.proofs.Places.{caches-long}
 use Rattle.bus.specs.Machines.{machine_of}
-use Rattle.bus.proofs.Obeying.{settles-after, settles-named, settles-none}
+use Rattle.bus.proofs.Obeying.{settles-after, settles-named}
 use Rattle.bus.proofs.bus.Bus.settle.Goals as goal
-
-pub loop-seat-init : goal.loop-seat-init
-loop-seat-init g c =
-    let lines = g.M.Memory.lines in
-    let aside = g.M.Memory.aside in
-    (settles-named lines aside (settles-none lines aside c.args.self.now) (λ es. refl) (omega arith), omega arith)
-
-pub settle_seat-written-requires : goal.settle_seat-written-requires
-settle_seat-written-requires g c =
-    let stays = c.loop-seat.invariant.0.obeys.stays in
-    let few : c.args.self.now.caches.seats ≤ 8 = c.args.self.now.caches.few in
-    record {
-      on = omega (arith, stays.seats, c.seats-seat-end.ensures, c.loop-seat-test.true);
-      room = omega (arith, stays.grown, c.requires, c.seats-seat-end.ensures, c.loop-seat-test.true);
-    }
-
-pub overflow_add-written : goal.overflow_add-written
-overflow_add-written g c =
-    let few : c.args.self.now.caches.seats ≤ 8 = c.args.self.now.caches.few in
-    omega (arith, c.loop-seat.invariant.1, c.settle_seat-written.ensures.few, c.seats-seat-end.ensures, c.loop-seat-test.true)
 
 pub loop-seat-preserved : goal.loop-seat-preserved
 loop-seat-preserved g c =
@@ -42,7 +22,7 @@ unfolding settled
 returns g c =
     let lines = g.M.Memory.lines in
     let b = c.args.self.now in
-    let few : b.caches.seats ≤ 8 = b.caches.few in
+    let few : b.caches.agreed.seats ≤ 8 = b.caches.agreed.few in
     let all : c.loop-seat.seat ≡ length (caches_of b.caches) =
     omega (arith, caches-long b.caches, c.seats-seat-end.ensures, c.loop-seat-test.false, c.loop-seat.auto.seat-end) in
     settles-named lines g.M.Memory.aside c.loop-seat.invariant.0

@@ -1,31 +1,10 @@
-use Rattle.std.proofs.Common.{◌≡◌, ℕ, ◌≤◌, [], length, get_or, sym, refl, ap, add-one, arith}
+use Rattle.std.proofs.Common.{◌≡◌, ℕ, ◌≤◌, [], length, get_or, sym, ap, add-one, arith}
 use Rattle.rules.specs.Accesses.{flushed_sets}
 use Rattle.caches.specs.Views.{caches_of}
 use Rattle.caches.proofs.Places.{cache-sets}
 use Rattle.bus.specs.Machines.{machine_of}
-use Rattle.bus.proofs.Obeying.{settles-after, settles-named, settles-none}
+use Rattle.bus.proofs.Obeying.{settles-after, settles-named}
 use Rattle.bus.proofs.bus.Bus.settle_seat.Goals as goal
-
-pub loop-at-init : goal.loop-at-init
-loop-at-init g c =
-    let lines = g.M.Memory.lines in
-    let aside = g.M.Memory.aside in
-    (settles-named lines aside (settles-none lines aside c.args.self.now) (λ es. refl) (omega arith), omega arith)
-
-pub settle_set-written-requires : goal.settle_set-written-requires
-settle_set-written-requires g c =
-    let stays = c.loop-at.invariant.0.obeys.stays in
-    let few : c.args.self.now.caches.sets ≤ 64 = c.args.self.now.caches.narrow in
-    record {
-      on = omega (arith, stays.seats, c.requires.on);
-      within = omega (arith, stays.sets, c.sets-at-end.ensures, c.loop-at-test.true);
-      room = omega (arith, stays.grown, c.requires.room, c.sets-at-end.ensures, c.loop-at-test.true);
-    }
-
-pub overflow_add-written : goal.overflow_add-written
-overflow_add-written g c =
-    let few : c.args.self.now.caches.sets ≤ 64 = c.args.self.now.caches.narrow in
-    omega (arith, c.loop-at.invariant.1, c.settle_set-written.ensures.few, c.sets-at-end.ensures, c.loop-at-test.true)
 
 pub loop-at-preserved : goal.loop-at-preserved
 loop-at-preserved g c =
@@ -38,18 +17,14 @@ loop-at-preserved g c =
       omega (arith, c.loop-at.invariant.1, c.settle_set-written.ensures.few),
     )
 
-pub returns : goal.returns
-returns g c =
+pub returns-clause-settles : goal.returns-clause-settles
+returns-clause-settles g c =
     let lines = g.M.Memory.lines in
     let b = c.args.self.now in
     let seat = c.args.seat in
-    let few : b.caches.sets ≤ 64 = b.caches.narrow in
+    let few : b.caches.agreed.sets ≤ 64 = b.caches.agreed.few_sets in
     let all : c.loop-at.at ≡ length (get_or (caches_of b.caches) seat []) =
     omega (arith, cache-sets b.caches seat c.requires.on, c.sets-at-end.ensures, c.loop-at-test.false, c.loop-at.auto.at-end) in
-    record {
-      settles =
-          settles-named lines g.M.Memory.aside c.loop-at.invariant.0
-          (λ es. ap (λ (n : ℕ). flushed_sets seat n (machine_of lines es b)) all)
-          (omega (arith, c.sets-at-end.ensures, c.loop-at.auto.at-end));
-      few = omega (arith, c.loop-at.invariant.1, c.sets-at-end.ensures, c.loop-at.auto.at-end);
-    }
+    settles-named lines g.M.Memory.aside c.loop-at.invariant.0
+    (λ es. ap (λ (n : ℕ). flushed_sets seat n (machine_of lines es b)) all)
+    (omega (arith, c.sets-at-end.ensures, c.loop-at.auto.at-end))

@@ -4,19 +4,8 @@ use Rattle.protocol.specs.declared.state.State.TheVariants.{Invalid}
 use Rattle.caches.specs.declared.line.CacheLine.{CacheLine}
 use Rattle.caches.specs.Lines.{blank}
 use Rattle.caches.specs.Views.{caches_of, table_view}
-use Rattle.caches.proofs.Moves.{bounds, own_home, let_go, not_there, not-held, room-freed, with_place}
+use Rattle.caches.proofs.Moves.{let_go, not_there, not-held, room-freed, with_place}
 use Rattle.caches.proofs.table.Caches.discard.Goals as goal
-
-pub invariant_of-self : goal.invariant_of-self
-invariant_of-self c =
-    let s = c.args.self.now in
-    let k = c.args.seat in
-    let i = c.place_of-at.result in
-    let at = c.place_of-at.ensures in
-    let p = get_or (get_or s.table k []) i blank in
-    let q : CacheLine = record { state = Invalid; tag = p.tag; words = p.words } in
-    let b = bounds s k c.requires i at.below q (λ _. own_home s k c.requires c.args.line i at.place q c.if-self-seat.true) in
-    record { few = s.few; some = s.some; narrow = s.narrow; listed = s.listed; rows = b.rows; wide = b.wide; homed = b.homed }
 
 pub returns-then-self-seat : goal.returns-then-self-seat
 unfolding caches_of
@@ -31,9 +20,8 @@ returns-then-self-seat c =
     record {
       caches = t.caches;
       copies = t.copies;
-      free = room-freed s k c.requires c.args.line i here (table_view s.seats s.sets (with_place s k i q)) t;
-      seats = refl;
-      sets = refl;
+      free = room-freed s k c.requires c.args.line i here (table_view s.agreed.seats s.agreed.sets (with_place s k i q)) t;
+      agreed = refl;
     }
 
 pub returns-else-self-seat : goal.returns-else-self-seat
@@ -47,6 +35,5 @@ returns-else-self-seat c =
       caches = t.caches;
       copies = t.copies;
       free = λ v. absurd (not-held s k c.requires c.args.line i here c.if-self-seat.false v);
-      seats = refl;
-      sets = refl;
+      agreed = refl;
     }

@@ -15,14 +15,14 @@ invariant_of-self c =
     bounds s k c.requires.on i at.below q
     (λ _. own_home s k c.requires.on c.args.line i at.place q (c.take.ensures.tag ∙ held-tag s k c.requires.on c.args.line i at.place c.requires.held))
     in
-    record { few = s.few; some = s.some; narrow = s.narrow; listed = s.listed; rows = b.rows; wide = b.wide; homed = b.homed }
+    record { rows = b.rows; wide = b.wide; homed = b.homed }
 
 pub returns : goal.returns
 unfolding caches_of
 returns c =
     let s = c.args.self.now in
     let p =
-    rewritten s c.args.seat c.requires.on c.args.line c.place_of-at.result c.place_of-at.ensures.place c.take.new.self c.args.state c.args.word
-    c.args.value c.requires.held c.take.ensures.tag c.take.ensures.state c.take.ensures.words
+    rewritten s c.args.seat c.requires.on c.args.line c.place_of-at.result c.place_of-at.ensures.place c.take.new.self c.args.state c.args.store.word
+    c.args.store.value c.requires.held c.take.ensures.tag c.take.ensures.state c.take.ensures.words
     in
-    record { caches = p.caches; copies = p.copies; seats = refl; sets = refl }
+    record { caches = p.caches; copies = p.copies; agreed = refl }

@@ -1,6 +1,7 @@
 use Rattle.std.proofs.Common.{rules}
-use Rattle.memory.specs.Cuts.{length-lines}
+use Rattle.memory.specs.Cuts.{lines_are}
 use Rattle.memory.proofs.plain_memory.Plain.lines.Goals as goal
 
 pub returns : goal.returns
-returns c = search (rules, length-lines)
+returns c =
+    rw (c.as_chunks.ensures.front, c.deref.ensures.value) (lines_are c.args.self.now.words.items c.min.result (search rules))

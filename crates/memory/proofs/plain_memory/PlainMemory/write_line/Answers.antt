@@ -1,9 +1,6 @@
 use Rattle.std.proofs.Common.{rules}
-use Rattle.memory.proofs.Dues.{line-within, line-beyond, line_kept}
+use Rattle.memory.specs.Cuts.{length-lines}
 use Rattle.memory.proofs.plain_memory.PlainMemory.write_line.Goals as goal
 
-pub returns-then-line-lines : goal.returns-then-line-lines
-returns-then-line-lines c = search (rules, line-beyond, line_kept)
-
-pub returns : goal.returns
-returns c = search (rules, line-within)
+pub put_line-requires : goal.put_line-requires
+put_line-requires c = search (rules, length-lines)

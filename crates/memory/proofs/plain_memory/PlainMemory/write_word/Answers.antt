@@ -1,10 +1,10 @@
 use Rattle.std.proofs.Common.{rules}
-use Rattle.memory.specs.Cuts.{line-long}
-use Rattle.memory.proofs.Dues.{word-within, word-beyond, word_kept}
+use Rattle.memory.specs.Cuts.{length-lines, line-long}
+use Rattle.memory.proofs.Dues.{word_kept}
 use Rattle.memory.proofs.plain_memory.PlainMemory.write_word.Goals as goal
 
-pub returns-then-line-lines : goal.returns-then-line-lines
-returns-then-line-lines c = search (rules, word-beyond, word_kept, line-long)
+pub returns-in_err-check_word-clause-lines : goal.returns-in_err-check_word-clause-lines
+returns-in_err-check_word-clause-lines c = search (rules, word_kept, line-long)
 
-pub returns : goal.returns
-returns c = search (rules, word-within)
+pub put-requires-clause-within : goal.put-requires-clause-within
+put-requires-clause-within c = search (rules, length-lines)

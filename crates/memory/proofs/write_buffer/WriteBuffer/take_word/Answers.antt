@@ -1,11 +1,10 @@
 use Rattle.std.proofs.Common.{refl}
 use Rattle.memory.specs.Buffers.{buffer}
-use Rattle.memory.specs.Waits.{waiting_in}
-use Rattle.memory.specs.Covers.{word_held}
+use Rattle.memory.specs.Covers.{held_at}
 use Rattle.memory.proofs.write_buffer.WriteBuffer.take_word.Goals as goal
 
 pub returns-in-Some : goal.returns-in-Some
 returns-in-Some g c = record {
-  taken = word_held c.args.line (buffer g.M.Memory.lines c.args.self.now) c.in-Some.place c.args.self.now.queue.apart c.in-Some.ensures (waiting_in c.change.new.self) c.args.word c.args.value c.change.ensures;
-  aside = refl;
+  made = held_at c.args.line (buffer g.M.Memory.lines c.args.self.now) c.in-Some.place c.find.ensures.apart c.in-Some.ensures.place c.change.new.self _ _ c.change.ensures;
+  kept = refl;
 }

@@ -1,5 +1,5 @@
 -- The bus is settled, and the memory drained: both lists are what the settle leaves.
-use Rattle.std.proofs.Common.{[], length, sym, ap, ◌∙◌}
+use Rattle.std.proofs.Common.{[], length, sym, ap, ◌∙◌, rules}
 use Rattle.rules.specs.Machines.{Machine}
 use Rattle.run.specs.Views.{system_of}
 use Rattle.run.proofs.Ending.{closed-memory, closed-tally, closed-lines, squares}
@@ -10,14 +10,12 @@ returns g c =
     let s = system_of g.P.Protocol.cells g.M.Memory.lines c.args.self in
     let m = c.settle-written.ensures.obeys.machine [] in
     let left = ap (λ (x : Machine). x.memory) m ∙ sym (closed-memory s) in
-    let reads = c.drained.ensures.lines ∙ left in
-    let bottom = c.drained.ensures.settled ∙ left in
     let tally = ap (λ (x : Machine). x.tally) m ∙ sym (closed-tally s) in
     record {
-      reads = reads;
-      bottom = bottom;
+      reads = search rules;
+      bottom = search rules;
       tally = tally;
       written = c.settle-written.ensures.wrote ∙ ap (λ (x : Machine). length x.records) m ∙ sym (closed-lines s);
-      apart = c.drained.ensures.aside ∙ c.settle-written.ensures.obeys.stays.apart;
-      squares = squares s _ _ _ reads bottom tally;
+      apart = search rules;
+      squares = squares s _ _ _ (search rules) (search rules) tally;
     }

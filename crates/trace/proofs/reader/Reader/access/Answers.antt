@@ -1,24 +1,10 @@
-use Rattle.std.proofs.Common.{Ok, Err, refl, ap, ◌∙◌}
-use Rattle.std.proofs.lemmas.Result.{err_from_is_err_and}
-use Rattle.trace.specs.Lines.{access_at}
-use Rattle.trace.proofs.Parting.{reads-err}
+use Rattle.std.proofs.Common.{rules}
 use Rattle.trace.proofs.Accessing.{access-grammar}
 use Rattle.trace.proofs.Keeping.{keeps-faith}
 use Rattle.trace.proofs.reader.Reader.access.Goals as goal
 
-pub returns-in_err-access : goal.returns-in_err-access
-returns-in_err-access c =
-    let p = err_from_is_err_and c.from_residual.result c.from_residual.ensures.1 in
-    let t = c.args.self.now.text.now in
-    let i = c.args.self.now.at in
-    let h = reads-err (access_at t i) i i c.from_residual.result c.in_err-access.field-0.0 (p.1 ∙ ap Err p.2) c.in_err-access.ensures.comes refl in
-    record { reads = h; faithful = keeps-faith access-grammar t i c.args.self.now.within c.from_residual.result i h; text = refl }
+pub returns-in_err-access-clause-faithful : goal.returns-in_err-access-clause-faithful
+returns-in_err-access-clause-faithful c = keeps-faith access-grammar _ _ c.args.self.now.within _ _ (search rules)
 
-pub returns : goal.returns
-returns c =
-    let h = c.in_ok-access.ensures.comes in
-    record {
-      reads = h;
-      faithful = keeps-faith access-grammar c.args.self.now.text.now c.args.self.now.at c.args.self.now.within (Ok c.in_ok-access.access) c.access_line.new.self.at h;
-      text = c.in_ok-access.ensures.text;
-    }
+pub returns-clause-faithful : goal.returns-clause-faithful
+returns-clause-faithful c = keeps-faith access-grammar _ _ c.args.self.now.within _ _ c.in_ok-access.ensures.comes

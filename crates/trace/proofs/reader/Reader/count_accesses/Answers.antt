@@ -1,18 +1,16 @@
-use Rattle.std.proofs.Common.{Err, ap, ◌∙◌, arith}
-use Rattle.std.proofs.lemmas.Result.{err_from_is_err_and}
+use Rattle.std.proofs.Common.{◌∙◌, arith}
 use Rattle.trace.proofs.Wholes.{goes_on, access-laws, followed_on, next-some, next-none, counted-all, counted-fault}
 use Rattle.trace.proofs.reader.Reader.count_accesses.Goals as goal
 
 pub returns-in_err-next_access : goal.returns-in_err-next_access
 returns-in_err-next_access c =
-    let p = err_from_is_err_and c.from_residual.result c.from_residual.ensures.1 in
     let t = c.args.self.now.text.now in
     let i = c.args.self.now.at in
     let a = c.loop-count.ahead in
     record {
       counted =
           counted-fault a.text.now t i a.at c.next_access.new.self.at c.loop-count.count c.from_residual.result c.in_err-next_access.field-0.0
-          c.loop-count.invariant.0 (p.1 ∙ ap Err p.2) c.in_err-next_access.ensures.reads c.loop-count.invariant.2;
+          c.loop-count.invariant.0 c.from_residual.ensures.1 c.in_err-next_access.ensures.reads c.loop-count.invariant.2;
       laws = access-laws t i c.args.self.now.within;
     }
 
