@@ -5,10 +5,11 @@ ghost use Rattle.bus.specs.Choices.{code_at, chosen};
 use protocol::{Cell, Protocol, State, Transaction};
 
 /// The byte that decides a write: cell 0 at Invalid, 1 at Shared, 2 at Owned; an exclusive copy asks no cell.
-// 0 there, as a protocol answers where there is no cell.
+// 0 there, as a protocol answers where there is no cell; nothing reads it.
 fn code_at<P: Protocol>(protocol: &P, seat: usize, state: State) -> u8
     ensures { result ≡ code_at (P.cells protocol.now seat) state }
 {
+    // An arm for each state, as the rule reads.
     match state {
         State::Invalid => protocol.cell(seat, Cell::WriteAtInvalid.number()),
         State::Shared => protocol.cell(seat, Cell::WriteAtShared.number()),

@@ -4,6 +4,7 @@ ghost use Rattle.std.specs.Prelude.{◌≤◌, length};
 use rules::Record;
 
 /// Places lent for records, and how many of them, from the first, hold one.
+// A count and no vector: the places are the caller's, and a run allocates nothing.
 #[derive(Drop)]
 pub struct Log<'a> {
     places: &'a mut [Record],

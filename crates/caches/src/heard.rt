@@ -23,7 +23,7 @@ pub enum Heard {
 }
 
 /// The state that a seat's cell names.
-// The cell goes by its number, as a protocol is asked for it, so that one above the last has an answer too.
+// By number, as a protocol is asked: over a `Cell` the promise would hold for sixteen numbers, and it holds for any.
 pub fn cell_state<P: Protocol>(protocol: &P, seat: usize, cell: u8) -> State
     ensures { result ≡ state_of (P.cells protocol.now seat cell) }
 {

@@ -18,6 +18,7 @@ pub(crate) fn check_line(count: usize, line: usize) -> Result<(), Refusal>
 }
 
 /// Refuses a word that is not there, or whose line is not.
+// Not by `check_line`: both faults have one refusal, so that one test of both is no longer than two in turn.
 pub(crate) fn check_word(count: usize, line: usize, word: usize) -> Result<(), Refusal>
     ensures { Answers (unless (nat_lt line count && nat_lt word words_in_line)) tt result }
 {

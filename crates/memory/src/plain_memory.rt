@@ -35,8 +35,8 @@ impl Plain {
         self.words
     }
 
-    /// The lines that the words make.
-    fn lines(&self) -> &[Line]
+    /// The lines, each with its words.
+    pub fn lines(&self) -> &[Line]
         ensures { result.now ≡ plain_lines self.now }
     {
         let (lines, _) = self.words.as_chunks::<WORDS_IN_LINE>();

@@ -76,7 +76,7 @@ impl Cell {
     }
 
     /// What the cell is for, in words.
-    // A text and no `Display`: callers pad it, and choose between two of them.
+    // A text and no `Display`: a report pads it to a column.
     pub fn purpose(self) -> &'static str
         ensures { result.now ≡ cell_use self }
     {

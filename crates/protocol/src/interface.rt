@@ -11,6 +11,7 @@ pub trait Protocol {
     /// What each seat answers at each cell number.
     ghost cells: { Self → ℕ → ℕ → ℕ };
 
+    // A protocol and a seat stay two parameters: it is asked for any seat's byte, and nothing ties the two.
     /// The byte of a cell for a seat: a transaction's digit or a state's letter, 0 above the last cell.
     fn cell(&self, seat: usize, cell: u8) -> u8
         ensures { result ≡ cells self.now seat cell };

@@ -37,7 +37,7 @@ impl Published {
     }
 
     /// The protocol's name.
-    // A text and no `Display`: callers pad it, and choose between two of them.
+    // A text and no `Display`: the law of reading a name speaks of these bytes.
     pub fn name(self) -> &'static str
         ensures { result.now ≡ published_name self }
     {
@@ -60,6 +60,7 @@ impl FromStr for Published {
     ghost from_str_gives = { NameRead };
 
     fn from_str(name: &str) -> Result<Published, Refusal> {
+        // Literal cases, as a text is read; `name` says them the other way round.
         match name {
             "writethrough" => Ok(Published::WriteThrough),
             "msi" => Ok(Published::Msi),

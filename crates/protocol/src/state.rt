@@ -57,7 +57,7 @@ impl State {
     }
 
     /// The state's name.
-    // A text and no `Display`: callers pad it, and choose between two of them.
+    // A text and no `Display`: a report puts it, or that there is none, in one place.
     pub fn name(self) -> &'static str
         ensures { result.now ≡ state_name self }
     {

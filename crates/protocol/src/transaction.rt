@@ -34,6 +34,7 @@ impl Transaction {
     }
 
     /// The two letters that stand for the transaction in a report.
+    // A text and no `Display`: a transaction has a name too, and a call says which it takes.
     pub fn mnemonic(self) -> &'static str
         ensures { result.now ≡ mnemonic self }
     {
@@ -49,7 +50,7 @@ impl Transaction {
     }
 
     /// The transaction's name.
-    // A text and no `Display`: callers pad it, and choose between two of them.
+    // A text and no `Display`: a transaction has a mnemonic too, and a call says which it takes.
     pub fn name(self) -> &'static str
         ensures { result.now ≡ transaction_name self }
     {

@@ -4,7 +4,7 @@ ghost use Rattle.memory.specs.Words.{plain_lines};
 ghost use Rattle.report.specs.Printed.{all_zero, memory_line, memory_line_if, memory_lines};
 
 use crate::shown::{Shown, show_all};
-use memory::{Memory, Plain};
+use memory::Plain;
 use std::alloc::AllocError;
 
 // `m LINE WORDS` for each line that is not all zero, upward.
@@ -12,11 +12,8 @@ impl Shown for Plain {
     ghost text = { λ memory. memory_lines 0 (plain_lines memory) };
 
     fn show(&self, out: &mut String) -> Result<(), AllocError> {
-        // Lines by number: a memory is asked for one at a time, and lends no slice of them.
-        for line in 0..self.count() {
-            if let Ok(words) = self.read_line(line) {
-                show_line_if(out, line, &words)?;
-            }
+        for (line, words) in self.lines().iter().enumerate() {
+            show_line_if(out, line, words)?;
         }
         Ok(())
     }

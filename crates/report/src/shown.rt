@@ -6,6 +6,7 @@ ghost use Rattle.report.specs.Printed.{either_text};
 
 use std::alloc::AllocError;
 
+// A trait of its own and no Display: these types are of other crates, and a word, an option and a result have a text here alone.
 /// A value that a report shows by its text.
 pub(crate) trait Shown {
     ghost text: { Self → List ℕ };

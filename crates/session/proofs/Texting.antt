@@ -94,15 +94,17 @@ module _ (t : List ℕ) (i : ℕ) (setup : Setup) (r : Ran) (fine : open_stop t 
   pub played-account : Accounted t (outcome_of (Ok r))
   played-account = record { gives = gave; only = λ x k. gives-alike t k gave; keeps = squares }
 
--- the same of a reader at the beginning of the text
-pub stopped-from : (t u : List ℕ) (n : ℕ) (f : TraceFault) (h : Halting) → u ≡ t → n ≡ 0 → open_stop u n ≡ Some (trace_stop f) → halted h ≡ halt_at t (trace_stop f)
+-- the same of a reader at the beginning of the text, which then stands over the same text
+pub stopped-from : (t u v : List ℕ) (n : ℕ) (f : TraceFault) (h : Halting) → u ≡ t → v ≡ u → n ≡ 0 → open_stop u n ≡ Some (trace_stop f) → halted h ≡ halt_at v (trace_stop f)
     → Accounted t (refused (halted h))
-stopped-from t u n f h p q e k =
-    stopped-account t f h (subst (λ (x : List ℕ). open_stop x 0 ≡ Some (trace_stop f)) p (subst (λ (x : ℕ). open_stop u x ≡ Some (trace_stop f)) q e)) k
+stopped-from t u v n f h p r q e k =
+    stopped-account t f h (subst (λ (x : List ℕ). open_stop x 0 ≡ Some (trace_stop f)) p (subst (λ (x : ℕ). open_stop u x ≡ Some (trace_stop f)) q e))
+    (subst (λ (x : List ℕ). halted h ≡ halt_at x (trace_stop f)) (r ∙ p) k)
 
-pub played-from : (t u : List ℕ) (n i : ℕ) (setup : Setup) (r : Ran) → u ≡ t → n ≡ 0 → open_stop u n ≡ None → Opened u n i setup
-    → Played t i setup.agreed.seats setup.agreed.sets (setup_cells setup) (zeros setup.lines) r → Accounted t (outcome_of (Ok r))
-played-from t u n i setup r p q e o k =
+pub played-from : (t u v : List ℕ) (n i : ℕ) (setup : Setup) (r : Ran) → u ≡ t → v ≡ u → n ≡ 0 → open_stop u n ≡ None → Opened u n i setup
+    → Played v i setup.agreed.seats setup.agreed.sets (setup_cells setup) (zeros setup.lines) r → Accounted t (outcome_of (Ok r))
+played-from t u v n i setup r p s q e o k =
     played-account t i setup r
     (subst (λ (x : List ℕ). open_stop x 0 ≡ None) p (subst (λ (x : ℕ). open_stop u x ≡ None) q e))
-    (subst (λ (x : List ℕ). Opened x 0 i setup) p (subst (λ (x : ℕ). Opened u x i setup) q o)) k
+    (subst (λ (x : List ℕ). Opened x 0 i setup) p (subst (λ (x : ℕ). Opened u x i setup) q o))
+    (subst (λ (x : List ℕ). Played x i setup.agreed.seats setup.agreed.sets (setup_cells setup) (zeros setup.lines) r) (s ∙ p) k)

@@ -14,7 +14,7 @@ use memory::Plain;
 use protocol::{Protocol, Split};
 use run::Run;
 use std::alloc::{AllocError, Global};
-use trace::{Reader, Setup, TraceFault, line_of};
+use trace::{Reader, Setup, TraceFault};
 
 /// Runs a text from its bus line to the closing. Only want of memory keeps an account from being made.
 pub fn play(heap: Global, text: &[u8]) -> Result<Account, AllocError>
@@ -23,36 +23,39 @@ pub fn play(heap: Global, text: &[u8]) -> Result<Account, AllocError>
     let mut reader = Reader::over(text);
     // A `match`: through a closure it is not known what the run of the setup gives.
     match reader.setup() {
-        Ok(setup) => Ok(Ok(play_setup(heap, text, reader, setup)?)),
-        Err(fault) => Ok(Err(stop_at(text, fault))),
+        Ok(setup) => Ok(Ok(play_setup(heap, reader, setup)?)),
+        Err(fault) => Ok(Err(stop_at(&reader, fault))),
     }
 }
 
 // A fault with the line that it lies in.
-fn stop_at(text: &[u8], fault: TraceFault) -> Stop
-    ensures { halted result ≡ halt_at text.now (trace_stop fault) }
+fn stop_at(reader: &Reader, fault: TraceFault) -> Stop
+    ensures { halted result ≡ halt_at reader.now.text.now (trace_stop fault) }
 {
     Stop {
         fault,
-        line: line_of(text, fault.byte()),
+        line: reader.line_of(fault.byte()),
     }
 }
 
+// What stopped the accesses, if anything did.
+// No `map`: through a closure over the reader it is not known which text the stop's line is of.
+fn stop_if(reader: &Reader, fault: Option<TraceFault>) -> Option<Stop>
+    ensures { option_map halted result ≡ option_map (halt_at reader.now.text.now) (option_map trace_stop fault) }
+{
+    Some(stop_at(reader, fault?))
+}
+
 // The accesses of a text whose bus line gave this setup.
-fn play_setup(heap: Global, text: &[u8], reader: Reader, setup: Setup) -> Result<Ran, AllocError>
-    requires { reader.text.now ≡ text.now }
-    ensures { IfOk result (λ ran. Played text.now reader.entry.at setup.agreed.seats setup.agreed.sets (setup_cells setup) (zeros setup.lines) ran) }
+fn play_setup(heap: Global, reader: Reader, setup: Setup) -> Result<Ran, AllocError>
+    ensures { IfOk result (λ ran. Played reader.entry.text.now reader.entry.at setup.agreed.seats setup.agreed.sets (setup_cells setup) (zeros setup.lines) ran) }
 {
     let memory = zero_memory(heap, setup.lines)?;
     match setup.division {
-        None => play_on(heap, text, reader, setup.agreed, setup.first, memory),
+        None => play_on(heap, reader, setup.agreed, setup.first, memory),
         Some(division) => {
-            let protocol = Split {
-                first: setup.first,
-                below: division.below as usize,
-                second: division.second,
-            };
-            play_on(heap, text, reader, setup.agreed, protocol, memory)
+            let protocol = Split::new(setup.first, division.below as usize, division.second);
+            play_on(heap, reader, setup.agreed, protocol, memory)
         }
     }
 }
@@ -60,14 +63,12 @@ fn play_setup(heap: Global, text: &[u8], reader: Reader, setup: Setup) -> Result
 // The accesses of a text, on a run under this protocol over this memory.
 fn play_on<P: Protocol + Drop>(
     heap: Global,
-    text: &[u8],
     reader: Reader,
     agreed: Agreed,
     protocol: P,
     memory: Plain,
 ) -> Result<Ran, AllocError>
-    requires { reader.text.now ≡ text.now }
-    ensures { IfOk result (λ ran. Played text.now reader.entry.at agreed.seats agreed.sets (P.cells protocol) (plain_lines memory) ran) }
+    ensures { IfOk result (λ ran. Played reader.entry.text.now reader.entry.at agreed.seats agreed.sets (P.cells protocol) (plain_lines memory) ran) }
 {
     let (run, ticket) = Run::open(agreed, protocol, memory);
     let mut playing = Playing { run };
@@ -77,7 +78,7 @@ fn play_on<P: Protocol + Drop>(
     let (steps, fault) = ended?;
     Ok(Ran {
         steps,
-        stop: fault.map(|fault| stop_at(text, fault)),
+        stop: stop_if(&reader, fault),
         closed,
     })
 }

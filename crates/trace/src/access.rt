@@ -1,6 +1,7 @@
 // What an access line asks for.
 use std::fmt;
 
+// Not a call of the rules: a line of the text says nothing of record places.
 /// An access, or a settle of the whole bus.
 #[derive(Clone, Copy, PartialEq, Eq, Debug)]
 pub enum Access {

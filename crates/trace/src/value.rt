@@ -17,6 +17,7 @@ pub(crate) fn number(digits: &[u8], byte: usize) -> Result<u32, LineFault>
     }
 }
 
+// No parse: it takes text, and the law of reading speaks of any bytes, digit by digit.
 // The value of digits, if it fits.
 fn value(digits: &[u8], byte: usize) -> Result<u32, NumberFault>
     ensures { result ≡ fitting digits.now byte }

@@ -144,6 +144,7 @@ impl<P: Protocol, M: Memory> Bus<P, M> {
         if self.caches.state(seat, line).is_valid() {
             return 0;
         }
+        // A log is made only here, so that a hit takes no more than its look-up.
         let mut log = Log::new(records);
         self.fill(seat, line, &mut log);
         log.made()

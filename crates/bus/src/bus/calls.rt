@@ -18,7 +18,7 @@ use memory::Memory;
 use protocol::Protocol;
 use rules::Record;
 
-// What is asked of the numbers and the places is a relation to this bus, which no type of theirs can state; a caller's word is a number, and a `Store` from here on.
+// What is asked of the numbers and the places is a relation to this bus, which no type of theirs can state; a written word is a `Store` from here on.
 impl<P: Protocol, M: Memory> Bus<P, M> {
     /// A seat reads a word: a line that it does not hold is read shared.
     pub fn read(&mut self, seat: usize, line: usize, word: usize, records: &mut [Record]) -> Reply

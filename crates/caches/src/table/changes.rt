@@ -11,6 +11,7 @@ use crate::line::CacheLine;
 use crate::store::Store;
 use protocol::State;
 
+// Three clauses on each and no record of them: a caller's proof takes the one that it needs by its name.
 impl Caches {
     /// The seat takes the line, in a state and with these words: there is room for it.
     pub fn place(&mut self, seat: usize, line: usize, state: State, words: [u32; 4])

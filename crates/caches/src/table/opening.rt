@@ -14,6 +14,7 @@ impl Caches {
         ensures caches { caches_of result ≡ replicate agreed.seats (fresh agreed.sets 1) }
         ensures agreed { result.agreed ≡ agreed }
     {
+        // No Default: only an empty place begins as Invalid, and a state by itself has no first value.
         let empty = CacheLine {
             state: State::Invalid,
             tag: 0,

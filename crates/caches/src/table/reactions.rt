@@ -36,6 +36,7 @@ impl Caches {
         heeded.note(seat, copy, after);
     }
 
+    // The clauses apart, as where a seat changes its own copy: a caller's proof takes the one that it needs by its name.
     /// Every other seat's copy of the line reacts, seats upward.
     pub fn react<P: Protocol>(
         &mut self,

@@ -19,6 +19,7 @@ impl<P: Protocol, M: Memory> Run<P, M> {
         ensures { Called P.cells M.lines M.aside (lent (length records.old) call) self.old self.new records.old records.new result }
     {
         let room = records.len();
+        // Cut in each arm: a settle brings no places.
         match call {
             Call::Read {
                 seat,

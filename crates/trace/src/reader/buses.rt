@@ -92,6 +92,7 @@ impl Reader<'_> {
         ensures reads { Reads bus_at self.old result self.new }
         ensures faithful { Faithful written_bus SoundBus bus_line_of self.old.text.now self.old.at result self.new.at }
     {
+        // As in access: a fault leaves the reader where it stood.
         let mut ahead = *self;
         let line = ahead.bus_parts()?;
         *self = ahead;

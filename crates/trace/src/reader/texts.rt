@@ -26,7 +26,14 @@ impl Reader<'_> {
     pub fn line(&self) -> usize
         ensures { result ≡ line_of self.now.text.now self.now.at }
     {
-        line_of(self.text, self.at)
+        self.line_of(self.at)
+    }
+
+    /// The line that a byte of the text lies in, counted from 1.
+    pub fn line_of(&self, byte: usize) -> usize
+        ensures { result ≡ line_of self.now.text.now byte }
+    {
+        line_of(self.text, byte)
     }
 
     /// Reads and checks the bus line of a text.
@@ -39,6 +46,7 @@ impl Reader<'_> {
                 refusal: Refusal::TextLength,
             });
         }
+        // As in access: a fault leaves the reader where it stood.
         let mut ahead = *self;
         let line = ahead.bus_line()?;
         let checks = Checks {
@@ -66,7 +74,7 @@ impl Reader<'_> {
         ensures laws { AccessLaws self.now.text.now self.now.at }
     {
         let mut ahead = *self;
-        // The reader is no iterator: what ends it may be a fault.
+        // The reader is no iterator: a fault leaves it where it stood, so that it would give that fault for ever.
         let mut count = 0;
         while let Some(_) = ahead.next_access()? {
             count += 1;
