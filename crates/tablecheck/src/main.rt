@@ -6,7 +6,7 @@ mod reason;
 mod report;
 mod word;
 
-use lines::line_end;
+use lines::Lines;
 use report::print_line;
 use std::io;
 use std::io::Read;
@@ -19,10 +19,8 @@ fn main(rt: HostRuntime) -> io::Result<()> {
 
 // The report of each line in turn; the last one may lack its end.
 fn print_all(rt: &impl Print, text: &[u8]) -> io::Result<()> {
-    let lines = text.split_inclusive(|byte| *byte == b'\n');
-    for (number, line) in (1u64..).zip(lines) {
-        // By line_end, whose contract says where the line ends; the last line may lack its byte 10.
-        print_line(rt, number, &line[0..line_end(line, 0)])?;
+    for (number, line) in (1u64..).zip(Lines { text }) {
+        print_line(rt, number, line)?;
     }
     Ok(())
 }
