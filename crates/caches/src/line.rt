@@ -25,7 +25,7 @@ impl CacheLine {
     {
         let state_by = |cell: Cell| cell_state(protocol, seat, cell.number());
         self.state = match (self.state, heard) {
-            (State::Invalid, _) => State::Invalid,
+            (State::Invalid, _) => return State::Invalid,
             (_, Heard::ReadInvalidate | Heard::Invalidate | Heard::ThroughInvalidate) =>
                 State::Invalid,
             (State::Shared, Heard::ReadShared) => state_by(Cell::ReadHeardAtShared),
