@@ -1,9 +1,11 @@
 -- The seven published protocols: their names and their cells, 0 to 15.
 --
--- named     the published protocol of a name, and Unnamed that there is none
--- NameRead  what reading a name gives
+-- named         the published protocol of a name, and Unnamed that there is none
+-- name_refusal  what is due for a name: 11 where there is none
+-- NameRead      what reading a name gives
 use Rattle.std.specs.Prelude.{◌≡◌, ◌≢◌, ℕ, cond, List, [], ◌∷◌, codes, Some, None, Option, Result, MatchResult, ok_or}
 use Rattle.std.specs.Str.{bytes_eq}
+use Rattle.refusal.specs.Refusals.{Told, plain, Answered}
 use Rattle.refusal.specs.declared.Refusal.{Refusal}
 use Rattle.refusal.specs.declared.Refusal.TheVariants.{ProtocolName}
 use Rattle.protocol.specs.declared.published.Published.{Published}
@@ -42,7 +44,13 @@ named w = named_among (WriteThrough ∷ Msi ∷ WriteOnce ∷ Illinois ∷ Berke
 abbrev pub Unnamed : List ℕ → Type 0
 Unnamed w = (p : Published) → published_name p ≢ w
 
+-- an unknown name is refused
+abbrev pub name_refusal : Option Published → Option Told
+name_refusal None = Some (plain 11)
+name_refusal (Some p) = None
+
 -- reading a name gives the protocol that has it, and else the refusal of an unknown name
 pub record NameRead (w : List ℕ) (r : Result Published Refusal) : Type 0 where
+  pub answer : Answered (name_refusal (named w)) (λ p. published_name p ≡ w) r
   pub value : r ≡ ok_or (named w) ProtocolName
   pub names : MatchResult r (λ p. published_name p ≡ w) (λ e. Unnamed w)

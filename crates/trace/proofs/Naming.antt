@@ -9,8 +9,8 @@ use Rattle.refusal.specs.Refusals.{plain}
 use Rattle.protocol.specs.Tables.{table_refusal}
 use Rattle.protocol.specs.declared.published.Published.{Published}
 use Rattle.protocol.specs.declared.published.Published.TheVariants.{WriteThrough, Msi, WriteOnce, Illinois, Berkeley, Dragon, Firefly}
-use Rattle.protocol.specs.Published.{published_name, named_among, named, Unnamed}
-use Rattle.trace.specs.Choices.{is_table, word_refusal, name_refusal}
+use Rattle.protocol.specs.Published.{published_name, named_among, named, name_refusal, Unnamed}
+use Rattle.trace.specs.Choices.{is_table, word_refusal}
 
 -- a word that is none of these names is not found among them
 pub none-among : (ps : List Published) (w : List ℕ) → Unnamed w → named_among ps w ≡ None

@@ -6,9 +6,9 @@
 -- spelled      the word that a choice is written as
 -- Chosen       what reading an accepted word gives
 use Rattle.std.specs.Prelude.{◌≡◌, ℕ, Bool, true, false, cond, ◌&&◌, List, [], ◌∷◌, Some, None, Option, nat_le}
-use Rattle.refusal.specs.Refusals.{Told, plain}
+use Rattle.refusal.specs.Refusals.{Told}
 use Rattle.protocol.specs.declared.published.Published.{Published}
-use Rattle.protocol.specs.Published.{published_name, published_cells, named}
+use Rattle.protocol.specs.Published.{published_name, published_cells, named, name_refusal}
 use Rattle.protocol.specs.Tables.{table_refusal}
 use Rattle.trace.specs.declared.choice.Choice.{Choice}
 use Rattle.trace.specs.declared.choice.Choice.TheVariants.{Named, Loaded}
@@ -21,11 +21,6 @@ is_digit b = nat_le 48 b && nat_le b 57
 abbrev pub is_table : List ℕ → Bool
 is_table [] = false
 is_table (b ∷ bs) = is_digit b
-
--- an unknown name is refused
-abbrev pub name_refusal : Option Published → Option Told
-name_refusal None = Some (plain 11)
-name_refusal (Some p) = None
 
 -- the refusal that is due for a word
 abbrev pub word_refusal : List ℕ → Option Told

@@ -3,7 +3,6 @@ ghost use Rattle.std.specs.Prelude.{◌≡◌, ℕ, ◌<◌, length, slice_index
 ghost use Rattle.protocol.specs.Flattened.{rows_answer, RowOf, Alike};
 
 use super::Flattened;
-use crate::cell::Cell;
 use crate::cells::byte_of;
 use crate::interface::Protocol;
 use std::array;
@@ -26,7 +25,7 @@ impl Flattened {
 fn row<P: Protocol>(protocol: &P, seat: usize) -> [u8; 16]
     ensures { RowOf (P.cells protocol.now) seat result }
 {
-    Cell::ALL.map(|cell| protocol.cell(seat, cell.number()))
+    array::from_fn(|cell| protocol.cell(seat, cell as u8))
 }
 
 impl Protocol for Flattened {
