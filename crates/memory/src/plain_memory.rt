@@ -61,7 +61,18 @@ impl Plain {
         ensures spare { plain_spare self.new ≡ plain_spare self.old }
     {
         let start = WORDS_IN_LINE * line;
-        self.words[start..start + WORDS_IN_LINE].copy_from_slice(&words);
+        put_words(&mut self.words[start..start + WORDS_IN_LINE], words);
+    }
+}
+
+/// Puts words over as many others.
+// As one array: to copy so many as come is a call.
+fn put_words(place: &mut [u32], words: Line)
+    requires { length place.old ≡ words_in_line }
+    ensures { place.new ≡ words }
+{
+    if let Some(place) = place.as_mut_array() {
+        *place = words;
     }
 }
 

@@ -105,9 +105,14 @@ impl Queue {
     }
 
     /// The oldest line leaves.
+    // Not by `remove`, which moves lines by a call for any number of them; these few stand in a row where it is known how many wait.
+    #[inline]
     pub fn pop(&mut self) -> Option<Waiting>
         ensures { MatchOption result ((self.old ≡ []) × (self.new ≡ self.old)) (λ w. self.old ≡ w ∷ self.new) }
     {
-        self.lines.pop_at(0)
+        let oldest = self.lines.as_slice().first().copied()?;
+        self.lines.as_mut_slice().copy_within(1.., 0);
+        self.lines.pop();
+        Some(oldest)
     }
 }

@@ -61,12 +61,14 @@ impl<M: Memory> WriteBuffer<M> {
     }
 
     /// Every waiting line goes down, oldest first.
+    // Not by `send_oldest`, which moves those that stay for each that goes.
     fn send_all(&mut self)
         ensures { Steps M.Memory.lines M.Memory.aside all_sent self.old self.new }
     {
-        while !self.waiting().is_empty() {
-            self.send_oldest();
+        for waiting in self.queue.waiting() {
+            let _ = self.below.write_line(waiting.line, waiting.words);
         }
+        self.queue = Queue::new();
     }
 
     /// Of a full buffer the oldest line goes down.

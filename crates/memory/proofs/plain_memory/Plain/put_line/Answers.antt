@@ -10,7 +10,7 @@ returns c =
     let four : 4 * c.args.line + 4 - 4 * c.args.line ≡ 4 = omega arith in
     let same = length-put v.items c.args.line c.args.words c.requires long in
     let held = with_items_is v _ (same ∙ sym v.ok.0) in
-    rw (four, c.copy_from_slice.ensures.after, c.deref_mut.ensures.value, held) (record {
+    rw (four, c.put_words.ensures, c.deref_mut.ensures.value, held) (record {
       lines = lines-put v.items c.args.line c.args.words c.requires long;
       spare = spare-put v.items c.args.line c.args.words c.requires long;
     })

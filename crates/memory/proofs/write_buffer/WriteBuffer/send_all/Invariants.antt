@@ -1,12 +1,9 @@
-use Rattle.std.proofs.Common.{◌≡◌, length}
-use Rattle.memory.specs.Buffers.{buffer, seen}
+use Rattle.std.proofs.Common.{◌≡◌, drop}
+use Rattle.memory.specs.Ages.{over}
 use Rattle.memory.proofs.write_buffer.WriteBuffer.send_all.Given as goal
 
--- what reads answer stays
-abbrev pub invariant-loop-self : goal.invariant-loop-self
-invariant-loop-self g l =
-    (seen (buffer g.M.Memory.lines l.self) ≡ seen (buffer g.M.Memory.lines l.initial.self))
-    × (g.M.Memory.aside l.self.below ≡ g.M.Memory.aside l.initial.self.below)
-
-abbrev pub decreases-loop-self : goal.decreases-loop-self
-decreases-loop-self g l = length l.self.queue
+-- the lines that are left, put over what stands below so far, make what reads answer
+abbrev pub invariant-loop-waiting : goal.invariant-loop-waiting
+invariant-loop-waiting g l =
+    (over (drop l.waiting-index l.fn.self.queue) (g.M.Memory.lines l.self.1.0) ≡ over l.fn.self.queue (g.M.Memory.lines l.fn.self.below))
+    × (g.M.Memory.aside l.self.1.0 ≡ g.M.Memory.aside l.fn.self.below)
