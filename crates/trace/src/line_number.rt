@@ -7,5 +7,8 @@ pub fn line_of(text: &[u8], byte: usize) -> usize
     ensures { result ≡ line_of text.now byte }
 {
     let front = &text[..byte.min(text.len())];
-    1 + front.iter().filter(|&&next| next == b'\n').count()
+    1 + front
+        .iter()
+        .map(|&next| usize::from(next == b'\n'))
+        .sum::<usize>()
 }
